@@ -1,0 +1,53 @@
+-- `x != x` is the test for a NaN; the exponent's field of a bit pattern is the test for a finite value. Assumes nothing.
+use mathlib.Core.Path.{_≡_, refl, sym, ap, subst, _∙_}
+use mathlib.Core.Bool.{Bool, true, false, not, cond, _&&_, Bool·beq, _||_}
+use Prim.Native.Nat.{ℕ, zero, suc, _*_, _+_, _/_, _%_}
+use lib.Dec.{T, leb, eqb, eqb-refl}
+use lib.IntN.{ℤ}
+use lib.Ieee.{Float, nan, inf, fin, Format, up, down, ne, isNan, odd, ofFields, ofBits, prec, low, ones, hid, top, fits, toBits, binary32, binary64}
+use lib.Ieee.Bits.{is-true, ofBits-toBits}
+use Rattle.float32.specs.Helpers.{finiteF}
+
+self-level : (s : Bool) (a : ℕ) → not (eqb a a && (Bool·beq s s || eqb a 0)) ≡ false
+self-level true a = rw (is-true (eqb a a) (eqb-refl a))
+self-level false a = rw (is-true (eqb a a) (eqb-refl a))
+
+pub ne-self : (x : Float) → ne x x ≡ isNan x
+unfolding ne isNan
+ne-self nan = refl
+ne-self (inf true) = refl
+ne-self (inf false) = refl
+ne-self (fin s m e) = self-level s (m * up e * down e)
+
+odd-finite : (d : ℕ) (s : Bool) (q k l : ℕ) → finiteF (odd d s q k l) ≡ true
+unfolding odd
+odd-finite d s zero k l = refl
+odd-finite d s (suc q) k l = refl
+
+zero-field : (f : Format) → true ≡ not (eqb 0 (ones f))
+zero-field binary32 = refl
+zero-field binary64 = refl
+
+fields-finite : (f : Format) (s : Bool) (x t : ℕ) → finiteF (ofFields f s x t) ≡ not (eqb x (ones f))
+unfolding ofFields
+fields-finite f s zero t = odd-finite (prec f) s t 0 (low f) ∙ zero-field f
+fields-finite f s (suc x) t = go (eqb (suc x) (ones f)) (eqb t 0)
+  where
+    go : (b z : Bool) → finiteF (cond b (cond z (inf s) nan) (odd (prec f) s (hid f + t) x (low f))) ≡ not b
+    go true true = refl
+    go true false = refl
+    go false z = odd-finite (prec f) s (hid f + t) x (low f)
+
+-- the exponent's field of x's pattern is all ones exactly where x is not finite
+pub finite-field : (f : Format) (x : Float) → T (fits f x) → finiteF x ≡ not (eqb (toBits f x % top f / hid f) (ones f))
+unfolding ofBits
+finite-field f x h = ap finiteF (sym (ofBits-toBits f x h)) ∙ fields-finite f (leb (top f) (toBits f x)) (toBits f x % top f / hid f) (toBits f x % hid f)
+
+pub finite-nan : (x : Float) → isNan x ≡ true → finiteF x ≡ false
+unfolding isNan
+finite-nan nan e = refl
+finite-nan (inf s) e = refl
+finite-nan (fin s m e) p = sym p
+
+pub no-nan : (x : Float) → ne x x ≡ false → T (not (isNan x))
+no-nan x e = subst (λ (b : Bool). T (not b)) (sym (sym (ne-self x) ∙ e)) tt
