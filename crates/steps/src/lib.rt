@@ -1,0 +1,305 @@
+// What one entry of a timeline is sent, and the times that decide it (timeline.rs; paper 01, part 4 and "A panel").
+use tween::Loop;
+ghost use mathlib.Core.Path.{_≡_};
+ghost use mathlib.Core.Bool.{cond, _&&_, _||_};
+ghost use Prim.Native.Nat.{_≤_};
+ghost use lib.Ieee.{binary32, rem};
+ghost use Rattle.steps.specs.Times.{endAt, runIn, runOf, timesRun, timesLocal, pingPong, localIn, localTime};
+ghost use Rattle.steps.specs.Rows.{untouched, cleared, kindOf, tickRow, synced, tickedOver, tickedIn, ticked, resetFirst, ruled};
+
+// How many entries a timeline holds at most.
+pub const MAX_ENTRIES: usize = 64;
+
+// An entry: where it starts, how long it is, and whether it is done.
+pub struct Entry {
+    pub start: f32,
+    pub duration: f32,
+    pub done: bool,
+}
+
+// An entry's row: the number of resets, plus 4 for an update by the amount, plus 8 for a seek to the place.
+pub struct Row {
+    pub kind: u8,
+    pub amount: f32,
+    pub place: f32,
+}
+
+// The row that an entry is sent, and the mark that it leaves.
+pub struct Stepped {
+    pub row: Row,
+    pub done: bool,
+}
+
+// What a call sends to every entry: nothing, a reset, what brings it to a local time, or that after a reset.
+pub enum Rule {
+    Keep,
+    Reset,
+    Sync(f32),
+    Restart(f32),
+}
+
+pub fn end_at(e: Entry) -> f32
+    ensures { λ r. ⌜ r ≡ endAt e ⌝ }
+{
+    e.start + e.duration
+}
+
+fn times_run(base: f32, n: u32) -> f32
+    ensures { λ r. ⌜ r ≡ timesRun base n ⌝ }
+{
+    base * float32::from_u32(tween::loop_mode::passes(n))
+}
+
+fn run_in(mode: Loop, base: f32) -> f32
+    ensures { λ r. ⌜ r ≡ runIn mode base ⌝ }
+{
+    match mode {
+        Loop::Once => base,
+        Loop::Times(n) => times_run(base, n),
+        Loop::Forever => float32::infinity(),
+        Loop::PingPong => float32::infinity(),
+        Loop::PingPongTimes(n) => times_run(base, n),
+    }
+}
+
+// The run of a timeline with this base: `playback_duration`.
+pub fn run_of(mode: Loop, base: f32) -> f32
+    ensures { λ r. ⌜ r ≡ runOf mode base ⌝ }
+{
+    if base == 0.0 { 0.0 } else { run_in(mode, base) }
+}
+
+fn times_local(base: f32, n: u32, elapsed: f32) -> f32
+    ensures { λ r. ⌜ r ≡ timesLocal base n elapsed ⌝ }
+{
+    let total = times_run(base, n);
+    if elapsed >= total {
+        base
+    } else {
+        elapsed % base
+    }
+}
+
+fn remainder(base: f32, elapsed: f32) -> f32
+    ensures { λ r. ⌜ r ≡ rem binary32 elapsed base ⌝ }
+{
+    elapsed % base
+}
+
+fn ping_pong(base: f32, elapsed: f32) -> f32
+    ensures { λ r. ⌜ r ≡ pingPong base elapsed ⌝ }
+{
+    let cycle = elapsed % (base * 2.0);
+    if cycle <= base {
+        cycle
+    } else {
+        base * 2.0 - cycle
+    }
+}
+
+fn local_in(mode: Loop, base: f32, elapsed: f32) -> f32
+    ensures { λ r. ⌜ r ≡ localIn mode base elapsed ⌝ }
+{
+    match mode {
+        Loop::Once => float32::min(elapsed, base),
+        Loop::Times(n) => times_local(base, n, elapsed),
+        Loop::Forever => remainder(base, elapsed),
+        Loop::PingPong => ping_pong(base, elapsed),
+        Loop::PingPongTimes(_) => ping_pong(base, elapsed),
+    }
+}
+
+// `local_time_for_elapsed`
+pub fn local_time(mode: Loop, base: f32, elapsed: f32) -> f32
+    ensures { λ r. ⌜ r ≡ localTime mode base elapsed ⌝ }
+{
+    if base == 0.0 {
+        0.0
+    } else {
+        local_in(mode, base, elapsed)
+    }
+}
+
+// Nothing is sent, and the mark stays.
+fn keep_entry(e: Entry) -> Stepped
+    ensures { λ r. ⌜ r ≡ untouched e ⌝ }
+{
+    Stepped {
+        row: Row {
+            kind: 0,
+            amount: 0.0,
+            place: 0.0,
+        },
+        done: e.done,
+    }
+}
+
+fn reset_entry() -> Stepped
+    ensures { λ r. ⌜ r ≡ cleared ⌝ }
+{
+    Stepped {
+        row: Row {
+            kind: 1,
+            amount: 0.0,
+            place: 0.0,
+        },
+        done: false,
+    }
+}
+
+// `sync_to_elapsed` for one entry at the local time t.
+pub fn sync_entry(t: f32, e: Entry) -> Stepped
+    ensures { λ r. ⌜ r ≡ synced t e ⌝ }
+{
+    let start = e.start;
+    let end = start + e.duration;
+    if t <= start {
+        return reset_entry();
+    }
+    if t >= end {
+        return Stepped {
+            row: Row {
+                kind: 8,
+                amount: 0.0,
+                place: 1.0,
+            },
+            done: true,
+        };
+    }
+    let duration = e.duration;
+    if duration == 0.0 {
+        return Stepped {
+            row: Row {
+                kind: 8,
+                amount: 0.0,
+                place: 1.0,
+            },
+            done: true,
+        };
+    }
+    Stepped {
+        row: Row {
+            kind: 8,
+            amount: 0.0,
+            place: (t - start) / duration,
+        },
+        done: false,
+    }
+}
+
+fn bit(set: bool, weight: u8) -> u8
+    ensures { λ r. ⌜ (r ≡ cond set weight 0) × (r ≤ weight) ⌝ }
+{
+    if set { weight } else { 0 }
+}
+
+fn kind_of(reset: bool, update: bool, seek: bool) -> u8
+    ensures { λ r. ⌜ r ≡ kindOf reset update seek ⌝ }
+{
+    bit(reset, 1) + bit(update, 4) + bit(seek, 8)
+}
+
+fn pick(choice: bool, x: f32, y: f32) -> f32
+    ensures { λ r. ⌜ r ≡ cond choice x y ⌝ }
+{
+    if choice { x } else { y }
+}
+
+fn either(a: bool, b: bool) -> bool
+    ensures { λ r. ⌜ r ≡ (a || b) ⌝ }
+{
+    if a { true } else { b }
+}
+
+fn both(a: bool, b: bool) -> bool
+    ensures { λ r. ⌜ r ≡ (a && b) ⌝ }
+{
+    if a { b } else { false }
+}
+
+fn tick_row(reset: bool, update: bool, seek: bool, amount: f32, done: bool) -> Stepped
+    ensures { λ r. ⌜ r ≡ tickRow reset update seek amount done ⌝ }
+{
+    let kind = kind_of(reset, update, seek);
+    let sent = pick(update, amount, 0.0);
+    let place = pick(seek, 1.0, 0.0);
+    Stepped {
+        row: Row {
+            kind,
+            amount: sent,
+            place,
+        },
+        done,
+    }
+}
+
+fn tick_over(entered: bool, kept: bool, x: f32, y: f32, ended: bool, reply: u8) -> Stepped
+    ensures { λ r. ⌜ r ≡ tickedOver entered kept x y ended reply ⌝ }
+{
+    let update = x < y;
+    let stopped = both(update, reply == 0);
+    let done = either(ended, either(stopped, kept));
+    tick_row(entered, update, ended, y - x, done)
+}
+
+fn tick_in(prev: f32, next: f32, e: Entry, reply: u8, entered: bool) -> Stepped
+    ensures { λ r. ⌜ r ≡ tickedIn prev next e reply entered ⌝ }
+{
+    let start = e.start;
+    let duration = e.duration;
+    let end = start + duration;
+    let outside = !entered;
+    let kept = both(outside, e.done);
+    if duration == 0.0 {
+        let begun = next >= start;
+        let done = either(begun, kept);
+        tick_row(entered, false, begun, 0.0, done)
+    } else {
+        let x = float32::max(prev, start);
+        let y = float32::min(next, end);
+        let ended = next >= end;
+        tick_over(entered, kept, x, y, ended, reply)
+    }
+}
+
+// `tick_forward` for one entry, with its leaf's reply: 0 stopped, 1 running.
+pub fn tick_entry(prev: f32, next: f32, e: Entry, reply: u8) -> Stepped
+    ensures { λ r. ⌜ r ≡ ticked prev next e reply ⌝ }
+{
+    let start = e.start;
+    if next < start {
+        reset_entry()
+    } else {
+        let from = prev <= start;
+        let to = next >= start;
+        let entered = both(from, to);
+        tick_in(prev, next, e, reply, entered)
+    }
+}
+
+fn restart_entry(t: f32, e: Entry) -> Stepped
+    ensures { λ r. ⌜ r ≡ resetFirst (synced t e) ⌝ }
+{
+    let s = sync_entry(t, e);
+    let row = s.row;
+    Stepped {
+        row: Row {
+            kind: row.kind + 1,
+            amount: row.amount,
+            place: row.place,
+        },
+        done: s.done,
+    }
+}
+
+// What the rule sends to an entry.
+pub fn step_entry(rule: Rule, e: Entry) -> Stepped
+    ensures { λ r. ⌜ r ≡ ruled rule e ⌝ }
+{
+    match rule {
+        Rule::Keep => keep_entry(e),
+        Rule::Reset => reset_entry(),
+        Rule::Sync(t) => sync_entry(t, e),
+        Rule::Restart(t) => restart_entry(t, e),
+    }
+}

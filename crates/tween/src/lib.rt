@@ -1,0 +1,3 @@
+pub mod loop_mode;
+
+pub use loop_mode::Loop;
