@@ -8,7 +8,7 @@ use Rattle.steps.specs.declared.Entry.{Entry}
 use Rattle.steps.specs.declared.Row.{Row}
 use Rattle.steps.specs.declared.Stepped.{Stepped}
 use Rattle.steps.specs.declared.Rule.{Rule}
-use Rattle.steps.specs.declared.Rule.the-variants.{Keep, Reset, Sync, Restart}
+use Rattle.steps.specs.declared.Rule.the-variants.{Keep, Clear, Sync, Restart}
 use Rattle.steps.specs.Times.{endAt}
 
 abbrev pub row : ℕ → Float → Float → Row
@@ -79,6 +79,6 @@ resetFirst s = stepped (row (s .row .kind + 1) (s .row .amount) (s .row .place))
 -- what a call other than a tick sends to an entry
 abbrev pub ruled : Rule → Entry → Stepped
 ruled Keep e = untouched e
-ruled Reset e = cleared
+ruled Clear e = cleared
 ruled (Sync t) e = synced t e
 ruled (Restart t) e = resetFirst (synced t e)

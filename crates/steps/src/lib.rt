@@ -33,7 +33,7 @@ pub struct Stepped {
 // What a call sends to every entry: nothing, a reset, what brings it to a local time, or that after a reset.
 pub enum Rule {
     Keep,
-    Reset,
+    Clear,
     Sync(f32),
     Restart(f32),
 }
@@ -298,7 +298,7 @@ pub fn step_entry(rule: Rule, e: Entry) -> Stepped
 {
     match rule {
         Rule::Keep => keep_entry(e),
-        Rule::Reset => reset_entry(),
+        Rule::Clear => reset_entry(),
         Rule::Sync(t) => sync_entry(t, e),
         Rule::Restart(t) => restart_entry(t, e),
     }

@@ -1,1 +1,3 @@
 pub mod Clocks
+pub mod Tracks
+pub mod Calls

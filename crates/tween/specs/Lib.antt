@@ -1,1 +1,3 @@
 pub mod LoopMode
+pub mod StaggerPattern
+pub mod Cases

@@ -1,5 +1,6 @@
+-- Loop modes (loop_mode.rs; paper 01, part 2).
 use Prim.Native.Nat.{ℕ, max}
 
--- the number of passes that a loop number stands for: 0 counts as 1
+-- "A number 0 counts as 1 pass."
 abbrev pub passes : ℕ → ℕ
 passes n = max n 1

@@ -1,0 +1,4 @@
+pub mod Text
+pub mod SameText
+pub mod Live
+pub mod First

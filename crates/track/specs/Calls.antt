@@ -1,0 +1,100 @@
+-- The calls on a track: what each leaves, sends, answers and refuses. `trackStep` is the definition of them all.
+use Prim.Native.Nat.{ℕ}
+use mathlib.Core.Bool.{Bool, true, false, _||_, cond}
+use mathlib.Core.List.{List, [], _∷_, map}
+use lib.Dec.{ltb}
+use lib.ListN.{length}
+use lib.Ieee.{Float, eq}
+use Rattle.float32.specs.Helpers.{zeroF}
+use Rattle.refusal.specs.Refusal.{accepted, rowsTooShort}
+use Rattle.tween.specs.declared.loop_mode.Loop.{Loop}
+use Rattle.steps.specs.declared.Row.{Row}
+use Rattle.steps.specs.declared.Rule.{Rule}
+use Rattle.steps.specs.declared.Rule.the-variants.{Keep, Clear, Sync, Restart}
+use Rattle.steps.specs.Times.{localTime}
+use Rattle.steps.specs.Rows.{ruled}
+use Rattle.track.specs.declared.clock.Clock.{Clock}
+use Rattle.track.specs.declared.track.Track.{Track}
+use Rattle.track.specs.declared.track.TrackMoved.{TrackMoved}
+use Rattle.track.specs.Clocks.{isCompleted, scaled, cleared, started, played, paused, resumed, seekTo, sought}
+use Rattle.track.specs.Tracks.{live, trackBase, trackRun, shareOf, rowsOf, moved}
+
+-- how many places of each row slice are lent
+pub record Room : Type 0 where
+  pub kinds : ℕ
+  pub amounts : ℕ
+  pub places : ℕ
+
+abbrev pub roomOf : List ℕ → List Float → List Float → Room
+roomOf k a p = record { kinds = length k; amounts = length a; places = length p }
+
+-- a call on a track, with its arguments
+pub data TrackCall : Type 0 where
+  Looping : Loop → TrackCall
+  SetTimeScale : Float → TrackCall
+  Play : Room → TrackCall
+  Pause : TrackCall
+  Resume : TrackCall
+  Reset : Room → TrackCall
+  Seek : Float → Room → TrackCall
+  SeekAbs : Float → Room → TrackCall
+
+-- what a call leaves and answers: its refusal, the track, the rows sent, whether it still runs, whether the whole-run completion fired, and the completed entries
+pub record TrackOut : Type 0 where
+  pub refusal : ℕ
+  pub track : Track
+  pub rows : List Row
+  pub running : Bool
+  pub completed : Bool
+  pub listed : List ℕ
+
+-- a call that sends nothing to the entries and answers nothing more
+abbrev pub silent : ℕ → Track → TrackOut
+silent n k = record { refusal = n; track = k; rows = []; running = false; completed = false; listed = [] }
+
+-- 3: "one of the three row slices is shorter than the entries"
+abbrev pub short : Room → Track → Bool
+short r k = ltb (r .kinds) (length (live k)) || (ltb (r .amounts) (length (live k)) || ltb (r .places) (length (live k)))
+
+-- "A refused call writes nothing; panel and builder are unchanged. Every other part of its answer is 0, 0.0 or false"
+abbrev pub unless : Bool → ℕ → Track → TrackOut → TrackOut
+unless refused n k o = cond refused (silent n k) o
+
+-- the track k with the clock c, and to every entry what the rule sends
+unfoldable pub sent : Track → Clock → Rule → Room → TrackOut
+sent k c rule r =
+    let ss = map (ruled rule) (live k) in
+    unless (short r k) rowsTooShort k
+    (record { refusal = accepted; track = moved k c ss; rows = rowsOf ss; running = false; completed = false; listed = [] })
+
+-- `play`: from Completed a reset first; then nothing where the base is 0, else synchronised
+unfoldable pub playRule : Loop → Clock → Float → Rule
+playRule mode c base =
+    let t = localTime mode base (started c .elapsed) in
+    cond (isCompleted (c .state)) (cond (eq base zeroF) Clear (Restart t)) (cond (eq base zeroF) Keep (Sync t))
+
+-- `seek_abs`
+unfoldable pub soughtTo : Track → Float → Room → TrackOut
+soughtTo k secs r =
+    let elapsed = seekTo (trackRun k) secs in
+    sent k (sought (k .clock) (trackRun k) elapsed) (Sync (localTime (k .looping) (trackBase k) elapsed)) r
+
+abbrev pub withClock : Track → Clock → Track
+withClock k c = record { count = k .count; entries = k .entries; clock = c; looping = k .looping }
+
+abbrev pub withLooping : Track → Loop → Track
+withLooping k mode = record { count = k .count; entries = k .entries; clock = k .clock; looping = mode }
+
+unfoldable pub trackStep : Track → TrackCall → TrackOut
+trackStep k (Looping mode) = silent accepted (withLooping k mode)
+trackStep k (SetTimeScale scale) = silent accepted (withClock k (scaled (k .clock) scale))
+trackStep k (Play r) = sent k (played (k .clock) (trackBase k)) (playRule (k .looping) (k .clock) (trackBase k)) r
+trackStep k Pause = silent accepted (withClock k (paused (k .clock)))
+trackStep k Resume = silent accepted (withClock k (resumed (k .clock)))
+trackStep k (Reset r) = sent k (cleared (k .clock)) Clear r
+trackStep k (Seek share r) = soughtTo k (shareOf k share) r
+trackStep k (SeekAbs secs r) = soughtTo k secs r
+
+-- the answer of play, reset and the seeks
+abbrev pub movedBy : TrackOut → TrackMoved
+movedBy o = record { refusal = o .refusal; track = o .track }

@@ -1,0 +1,83 @@
+-- The entries of a track, and what rows and marks do to them. Definitions only.
+use Prim.Native.Nat.{ℕ}
+use mathlib.Core.Path.{_≡_}
+use mathlib.Core.Bool.{Bool, true, false, cond}
+use mathlib.Core.List.{List, [], _∷_, _++_, map}
+use lib.ListN.{length, take, drop, replicate}
+use lib.Ieee.{Float, binary32, div, mul, eq}
+use Rattle.float32.specs.Helpers.{zeroF, oneF, clampF, finiteF}
+use Rattle.tween.specs.declared.loop_mode.Loop.{Loop}
+use Rattle.tween.specs.declared.loop_mode.Loop.the-variants.{Once}
+use Rattle.steps.specs.declared.Entry.{Entry}
+use Rattle.steps.specs.declared.Row.{Row}
+use Rattle.steps.specs.declared.Stepped.{Stepped}
+use Rattle.steps.specs.Times.{maxEntries, baseOf, runOf, localTime}
+use Rattle.track.specs.declared.clock.Clock.{Clock}
+use Rattle.track.specs.declared.track.Track.{Track}
+use Rattle.track.specs.Clocks.{newClock}
+
+-- what stands in a place that holds no entry
+abbrev pub blank : Entry
+blank = record { start = zeroF; duration = zeroF; done = false }
+
+-- "The empty panel is Idle at 0, `Once`, scale 1"
+unfoldable pub emptyTrack : Track
+emptyTrack = record { count = 0; entries = replicate maxEntries blank; clock = newClock; looping = Once }
+
+-- the entries that count: a count past the array counts them all
+abbrev pub live : Track → List Entry
+live k = take (k .count) (k .entries)
+
+-- the base: `Timeline::duration`
+abbrev pub trackBase : Track → Float
+trackBase k = baseOf (live k)
+
+-- the run: `playback_duration`
+abbrev pub trackRun : Track → Float
+trackRun k = runOf (k .looping) (trackBase k)
+
+-- `progress` at an elapsed time: of the run if it is finite, else of the base
+unfoldable pub progressIn : Loop → Float → Float → Float → Float
+progressIn mode base total elapsed =
+    cond (eq total zeroF) oneF
+    (cond (finiteF total) (clampF (div binary32 elapsed total) zeroF oneF)
+    (cond (eq base zeroF) oneF (clampF (div binary32 (localTime mode base elapsed) base) zeroF oneF)))
+
+abbrev pub progressOf : Track → Float
+progressOf k = progressIn (k .looping) (trackBase k) (trackRun k) (k .clock .elapsed)
+
+-- the second that a share stands for, in `seek`: a share of the run, or of the base where the run is not finite
+unfoldable pub shareIn : Float → Float → Float → Float
+shareIn base total share = mul binary32 (cond (finiteF total) total base) (clampF share zeroF oneF)
+
+abbrev pub shareOf : Track → Float → Float
+shareOf k share = shareIn (trackBase k) (trackRun k) share
+
+-- ---- rows and marks
+
+-- an entry with the mark d
+abbrev pub marked : Entry → Bool → Entry
+marked e d = record { start = e .start; duration = e .duration; done = d }
+
+-- each entry with the mark that its step leaves
+abbrev pub marks : List Entry → List Stepped → List Entry
+marks [] ss = []
+marks (e ∷ es) [] = []
+marks (e ∷ es) (s ∷ ss) = marked e (s .done) ∷ marks es ss
+
+abbrev pub rowsOf : List Stepped → List Row
+rowsOf = map (λ s. s .row)
+
+-- xs over the front of old: what lies beyond is as it was
+abbrev pub over : {A : Type 0} → List A → List A → List A
+over xs old = xs ++ drop (length xs) old
+
+-- the track k with the clock c and the marks that the steps leave
+abbrev pub moved : Track → Clock → List Stepped → Track
+moved k c ss = record { count = k .count; entries = over (marks (live k) ss) (k .entries); clock = c; looping = k .looping }
+
+-- What rows leave in the three lent slices, from what was there: "Rows beyond the entries are not written", and nothing where there are no rows.
+pub record Sent (rs : List Row) (k₀ k : List ℕ) (a₀ a p₀ p : List Float) : Type 0 where
+  pub kinds : k ≡ over (map (λ r. r .kind) rs) k₀
+  pub amounts : a ≡ over (map (λ r. r .amount) rs) a₀
+  pub places : p ≡ over (map (λ r. r .place) rs) p₀
