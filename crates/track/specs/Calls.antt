@@ -1,12 +1,12 @@
 -- The calls on a track: what each leaves, sends, answers and refuses. `trackStep` is the definition of them all.
 use Prim.Native.Nat.{ℕ}
-use mathlib.Core.Bool.{Bool, true, false, _||_, cond}
+use mathlib.Core.Bool.{Bool, true, false, not, _&&_, _||_, cond}
 use mathlib.Core.List.{List, [], _∷_, map}
 use lib.Dec.{ltb}
 use lib.ListN.{length}
 use lib.Ieee.{Float, eq}
 use Rattle.float32.specs.Helpers.{zeroF}
-use Rattle.refusal.specs.Refusal.{accepted, rowsTooShort}
+use Rattle.refusal.specs.Refusal.{accepted, rowsTooShort, badReplies, listTooShort}
 use Rattle.tween.specs.declared.loop_mode.Loop.{Loop}
 use Rattle.steps.specs.declared.Row.{Row}
 use Rattle.steps.specs.declared.Rule.{Rule}
@@ -14,10 +14,13 @@ use Rattle.steps.specs.declared.Rule.the-variants.{Keep, Clear, Sync, Restart}
 use Rattle.steps.specs.Times.{localTime}
 use Rattle.steps.specs.Rows.{ruled}
 use Rattle.track.specs.declared.clock.Clock.{Clock}
+use Rattle.track.specs.declared.clock.TimelineState.{TimelineState}
+use Rattle.track.specs.declared.clock.TimelineState.the-variants.{Idle, Playing, Paused, Completed}
 use Rattle.track.specs.declared.track.Track.{Track}
 use Rattle.track.specs.declared.track.TrackMoved.{TrackMoved}
 use Rattle.track.specs.Clocks.{isCompleted, scaled, cleared, started, played, paused, resumed, seekTo, sought}
 use Rattle.track.specs.Tracks.{live, trackBase, trackRun, shareOf, rowsOf, moved}
+use Rattle.track.specs.Updates.{repliesBad, Advance, playing, advancedClock}
 
 -- how many places of each row slice are lent
 pub record Room : Type 0 where
@@ -28,7 +31,7 @@ pub record Room : Type 0 where
 abbrev pub roomOf : List ℕ → List Float → List Float → Room
 roomOf k a p = record { kinds = length k; amounts = length a; places = length p }
 
--- a call on a track, with its arguments
+-- a call on a track, with its arguments; of the lent list its length
 pub data TrackCall : Type 0 where
   Looping : Loop → TrackCall
   SetTimeScale : Float → TrackCall
@@ -38,6 +41,8 @@ pub data TrackCall : Type 0 where
   Reset : Room → TrackCall
   Seek : Float → Room → TrackCall
   SeekAbs : Float → Room → TrackCall
+  Update : Float → List ℕ → ℕ → Room → TrackCall
+  Preview : Float → Room → TrackCall
 
 -- what a call leaves and answers: its refusal, the track, the rows sent, whether it still runs, whether the whole-run completion fired, and the completed entries
 pub record TrackOut : Type 0 where
@@ -79,6 +84,49 @@ soughtTo k secs r =
     let elapsed = seekTo (trackRun k) secs in
     sent k (sought (k .clock) (trackRun k) elapsed) (Sync (localTime (k .looping) (trackBase k) elapsed)) r
 
+-- where an update comes to
+unfoldable pub advancedTo : Track → Advance → TrackOut
+advancedTo k a =
+    record {
+      refusal = accepted;
+      track = moved k (advancedClock (k .clock) (a .elapsed) (a .ended)) (a .steps);
+      rows = rowsOf (a .steps);
+      running = not (a .ended);
+      completed = a .ended && not (k .clock .«complete_fired»);
+      listed = a .listed;
+    }
+
+-- an update that does not play: "running" but where it is Completed
+unfoldable pub rested : Track → Bool → TrackOut
+rested k running =
+    let ss = map (ruled Keep) (live k) in
+    record { refusal = accepted; track = moved k (k .clock) ss; rows = rowsOf ss; running = running; completed = false; listed = [] }
+
+-- `update` by the state
+abbrev pub updatedIn : TimelineState → Track → Float → List ℕ → TrackOut
+updatedIn Idle k dt rs = rested k true
+updatedIn Playing k dt rs = advancedTo k (playing k dt rs)
+updatedIn Paused k dt rs = rested k true
+updatedIn Completed k dt rs = rested k false
+
+-- `update`, with room enough
+unfoldable pub updated : Track → Float → List ℕ → TrackOut
+updated k dt rs = updatedIn (k .clock .state) k dt rs
+
+-- `update`: "Order: 3, 4, 5. A panel that isn't Playing still checks 3 and 4."
+unfoldable pub updatedWith : Track → Float → List ℕ → ℕ → Room → TrackOut
+updatedWith k dt rs list r =
+    let o = updated k dt rs in
+    unless (short r k) rowsTooShort k
+    (unless (repliesBad rs k) badReplies k
+    (unless (ltb list (length (o .listed))) listTooShort k o))
+
+-- the preview: "the rows that `update` with room enough would write and changes nothing in the panel"; "it refuses by 3 only"
+unfoldable pub previewed : Track → Float → Room → TrackOut
+previewed k dt r =
+    unless (short r k) rowsTooShort k
+    (record { refusal = accepted; track = k; rows = updated k dt [] .rows; running = false; completed = false; listed = [] })
+
 abbrev pub withClock : Track → Clock → Track
 withClock k c = record { count = k .count; entries = k .entries; clock = c; looping = k .looping }
 
@@ -94,6 +142,8 @@ trackStep k Resume = silent accepted (withClock k (resumed (k .clock)))
 trackStep k (Reset r) = sent k (cleared (k .clock)) Clear r
 trackStep k (Seek share r) = soughtTo k (shareOf k share) r
 trackStep k (SeekAbs secs r) = soughtTo k secs r
+trackStep k (Update dt rs list r) = updatedWith k dt rs list r
+trackStep k (Preview dt r) = previewed k dt r
 
 -- the answer of play, reset and the seeks
 abbrev pub movedBy : TrackOut → TrackMoved

@@ -1,3 +1,4 @@
 pub mod Clocks
 pub mod Tracks
+pub mod Updates
 pub mod Calls
