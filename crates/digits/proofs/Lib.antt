@@ -1,0 +1,4 @@
+-- Laws on texts of digits, and on a loop that writes one.
+pub mod Length
+pub mod Room
+pub mod Write

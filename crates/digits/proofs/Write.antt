@@ -1,0 +1,60 @@
+-- A loop that writes a text of digits into a slice, from the last to the first: what is left to do, at each turn.
+use Prim.Native.Nat.{ℕ, zero, suc, _+_, _-_, _/_, _%_, _≤_, _<_}
+use mathlib.Core.Path.{_≡_, refl, sym, ap, _∙_}
+use mathlib.Core.List.{List, [], _∷_, _++_, append-assoc, append-nil}
+use native.Mathlib.Nat.{add-zero, add-suc, not-suc-le-zero}
+use native.Mathlib.Numerals.{add-one, sub-one}
+use native.Mathlib.Omega.{arith}
+use lib.ListN.{length, take, drop, set, getD, length-set, take-append-drop}
+use lib.Seq.{take-set-le, drop-cons, drop-set-lt, getD-set-same, append-snoc}
+use Rattle.digits.specs.Digits.{codeOf, digits, over}
+use Rattle.digits.proofs.Length.{length-snoc, length-digits}
+
+drop-set : (l : List ℕ) (i v : ℕ) → i < length l → drop i (set l i v) ≡ v ∷ drop (suc i) l
+drop-set l i v h =
+    let k : i < length (set l i v) = simp length-set h in
+    rw (drop-cons (set l i v) i 0, getD-set-same l i v 0, drop-set-lt (suc i) l i v (omega arith))
+
+-- nothing put over a slice leaves it
+pub over-nil : (at : ℕ) (old : List ℕ) → over [] at old ≡ old
+over-nil at old = rw (add-zero, append-nil) (take-append-drop at old)
+
+-- a byte stored behind a text that is still to be put is the text's last
+pub over-snoc : (text : List ℕ) (at v j : ℕ) (out : List ℕ) → length text ≡ j → at + j < length out
+    → over text at (set out (at + j) v) ≡ over (text ++ (v ∷ [])) at out
+over-snoc text at v j out e h =
+    rw (e, take-set-le at out (at + j) v (omega arith), drop-set out (at + j) v h, length-snoc text v, e, add-one j, add-suc at j)
+    (simp append-assoc)
+
+-- after the stores so far, out lacks the first i of the w digits of n in base b, which are those of rest
+pub record Left (b n w at : ℕ) (old out : List ℕ) (rest i : ℕ) : Type 0 where
+  pub within : i ≤ w
+  pub room : at + w ≤ length old
+  pub same : length out ≡ length old
+  pub left : over (digits b i rest) at out ≡ over (digits b w n) at old
+
+module _ (b n w at : ℕ) (old : List ℕ) where
+  pub all-left : at + w ≤ length old → Left b n w at old old n w
+  all-left h = record { within = omega arith; room = h; same = refl; left = refl }
+
+  one-less : (out : List ℕ) (rest j v : ℕ) → Left b n w at old out rest (suc j) → v ≡ codeOf (rest % b)
+      → Left b n w at old (set out (at + j) v) (rest / b) j
+  unfolding digits
+  one-less out rest j v l e =
+      record {
+        within = omega arith;
+        room = l .room;
+        same = length-set out (at + j) v ∙ l .same;
+        left = over-snoc (digits b j (rest / b)) at v j out (length-digits b j (rest / b)) (omega arith) ∙ rw e (l .left);
+      }
+
+  -- a turn
+  pub fewer-left : (out : List ℕ) (rest i v : ℕ) → Left b n w at old out rest i → 0 < i → v ≡ codeOf (rest % b)
+      → Left b n w at old (set out (at + (i - 1)) v) (rest / b) (i - 1)
+  fewer-left out rest zero v l h e = absurd (not-suc-le-zero h)
+  fewer-left out rest (suc j) v l h e = rw sub-one (one-less out rest j v l e)
+
+  pub none-left : (out : List ℕ) (rest i : ℕ) → Left b n w at old out rest i → i ≤ 0 → out ≡ over (digits b w n) at old
+  unfolding digits
+  none-left out rest zero l h = sym (over-nil at out) ∙ l .left
+  none-left out rest (suc j) l h = absurd (not-suc-le-zero h)
