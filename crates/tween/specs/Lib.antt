@@ -1,0 +1,2 @@
+pub mod LoopMode
+pub mod StaggerPattern
