@@ -16,16 +16,10 @@ use lib.Ieee.Exact.{HasValue}
 use lib.Ieee.Order.{round-mono}
 use Rattle.float32.specs.Helpers.{zeroF, nonnegF}
 use Rattle.float32.proofs.Order as order
-use Rattle.float32.proofs.Order.{zero-times, le-of-not-lt, le-self}
-use Rattle.float32.proofs.Nonneg.{nonneg-no-nan, nonneg-not-lt, add-nonneg, round-nonneg, or-zero, round-zero-value, zero-size, round-zero-nonneg}
+use Rattle.float32.proofs.Order.{zero-times}
+pub use Rattle.float32.proofs.Nonneg.{zero-le-nonneg}
+use Rattle.float32.proofs.Nonneg.{add-nonneg, round-nonneg, or-zero, round-zero-value, zero-size, round-zero-nonneg}
 use Rattle.float32.proofs.Value.{round-own}
-
-zero-no-nan : isNan zeroF ≡ false
-unfolding isNan ofBits
-zero-no-nan = refl
-
-pub zero-le-nonneg : (z : Float) → nonnegF z ≡ true → le zeroF z ≡ true
-zero-le-nonneg z h = le-of-not-lt z zeroF (nonneg-no-nan z h) zero-no-nan (nonneg-not-lt z h)
 
 -- a zero of either sign is no larger than zero
 zero-le-zero : (s : Bool) (m : ℕ) (e : ℤ) → m ≡ 0 → le (fin s m e) zeroF ≡ true

@@ -43,11 +43,20 @@ pub finite-field : (f : Format) (x : Float) → T (fits f x) → finiteF x ≡ n
 unfolding ofBits
 finite-field f x h = ap finiteF (sym (ofBits-toBits f x h)) ∙ fields-finite f (leb (top f) (toBits f x)) (toBits f x % top f / hid f) (toBits f x % hid f)
 
+-- a NaN is not finite
 pub finite-nan : (x : Float) → isNan x ≡ true → finiteF x ≡ false
 unfolding isNan
 finite-nan nan e = refl
 finite-nan (inf s) e = refl
 finite-nan (fin s m e) p = sym p
 
+-- a finite value is no NaN
+pub finite-no-nan : (x : Float) → finiteF x ≡ true → isNan x ≡ false
+unfolding isNan
+finite-no-nan nan h = sym h
+finite-no-nan (inf s) h = refl
+finite-no-nan (fin s m e) h = refl
+
+-- the test `x != x` failed
 pub no-nan : (x : Float) → ne x x ≡ false → T (not (isNan x))
 no-nan x e = subst (λ (b : Bool). T (not b)) (sym (sym (ne-self x) ∙ e)) tt

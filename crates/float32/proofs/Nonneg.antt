@@ -2,7 +2,8 @@
 use mathlib.Core.Path.{_≡_, refl, sym, ap, subst, _∙_}
 use mathlib.Core.Logic.{_⊎_, inl, inr}
 use mathlib.Core.Bool.{Bool, true, false, not, _&&_, _||_, cond, true≢false, false≢true, or-true}
-use Prim.Native.Nat.{ℕ, zero, suc, _+_, _-_, _*_, _^_, _<_, _≤_, zero-le}
+use mathlib.Core.List.{List, [], _∷_, foldl}
+use Prim.Native.Nat.{ℕ, zero, suc, _+_, _-_, _*_, _^_, _<_}
 use native.Mathlib.Nat.{zero-mul, mul-pos, eq-zero-or-pos, mul-comm}
 use native.Mathlib.Omega.{arith}
 use borrow.Author.Tests.{lt-ltb, le-ltb, eq-eqb, ne-eqb, ltb-true, eqb-true, not-true}
@@ -15,8 +16,10 @@ use lib.Ieee.Fits.{up-pos, down-pos, round-is, core}
 use lib.Ieee.Exact.{HasValue, round-exact}
 use lib.Ieee.Order.{round-mono}
 use lib.Ieee.Positive.{above, above-of-le, first-pos}
-use Rattle.float32.specs.Helpers.{maxF, minF, zeroF, nonnegF}
-use Rattle.float32.proofs.Order.{first-zero, zero-times, le-of-not-lt, not-lt-of-le, le-self, le-no-nan}
+use Rattle.float32.specs.Helpers.{maxF, minF, zeroF, nonnegF, finiteF, infinityF}
+use Rattle.float32.proofs.Order.{first-zero, zero-times, le-trans, le-of-not-lt, not-lt-of-le, not-le-of-lt, le-no-nan, lt-infinity}
+use Rattle.float32.proofs.MaxMin.{max-same, max-ge-left, max-ge-right, min-by}
+pub use Rattle.float32.proofs.MaxMin.{min-le, min-same}
 
 -- ---- `round`
 odd-nonneg : (d q k l : ℕ) → nonnegF (odd d false q k l) ≡ true
@@ -159,12 +162,14 @@ pub times-count : (base : Float) (n : ℕ) → lt zeroF base ≡ true → 0 < n 
 times-count base n h k = mul-above binary32 base (ofInt binary32 (pos n)) (above-of-lt base h) (ofInt-above n k)
 
 -- ---- `nonnegF` by comparisons
+-- such a value is no NaN
 pub nonneg-no-nan : (x : Float) → nonnegF x ≡ true → isNan x ≡ false
 unfolding isNan
 nonneg-no-nan nan h = sym h
 nonneg-no-nan (inf s) h = refl
 nonneg-no-nan (fin s m e) h = refl
 
+-- off NaN it is one test
 pub nonneg-is : (x : Float) → isNan x ≡ false → nonnegF x ≡ not (lt x zeroF)
 unfolding lt isNan ofBits
 nonneg-is nan p = absurd (true≢false p)
@@ -176,42 +181,68 @@ nonneg-is (fin true m e) p = elim (eq-zero-or-pos m) [
   | inr q ↦ simp (ne-eqb m 0 (λ (z : m ≡ 0). omega arith), lt-ltb 0 (m * up e * 1 + 0 * down e) (omega (arith, mul-pos q (up-pos e))))
 ]
 
+-- not below zero
 pub nonneg-not-lt : (x : Float) → nonnegF x ≡ true → lt x zeroF ≡ false
 nonneg-not-lt x h = not-true _ (sym (nonneg-is x (nonneg-no-nan x h)) ∙ h)
 
--- ---- the larger of x and zero
+-- 0.0 is such a value
+pub zero-nonneg : nonnegF zeroF ≡ true
+unfolding ofBits
+zero-nonneg = refl
+
+-- zero is no larger than such a value
+pub zero-le-nonneg : (x : Float) → nonnegF x ≡ true → le zeroF x ≡ true
+zero-le-nonneg x h = le-of-not-lt x zeroF (nonneg-no-nan x h) (nonneg-no-nan zeroF zero-nonneg) (nonneg-not-lt x h)
+
+-- and what is no smaller than zero is one
+pub nonneg-of-le : (x : Float) → le zeroF x ≡ true → nonnegF x ≡ true
+nonneg-of-le x h = nonneg-is x (le-no-nan zeroF x h .1) ∙ ap not (not-lt-of-le zeroF x h)
+
+-- so is what is no smaller than such a value
+pub nonneg-of-ge : (x y : Float) → nonnegF x ≡ true → le x y ≡ true → nonnegF y ≡ true
+nonneg-of-ge x y h k = nonneg-of-le y (le-trans zeroF x y (zero-le-nonneg x h) k)
+
+-- ---- max
+-- of any value and zero
 pub max-zero-nonneg : (x : Float) → nonnegF (maxF x zeroF) ≡ true
-unfolding maxF ofBits
-max-zero-nonneg x = go (isNan x) (lt x zeroF) refl refl
-  where
-    go : (a b : Bool) → isNan x ≡ a → lt x zeroF ≡ b → nonnegF (cond a zeroF (cond b zeroF x)) ≡ true
-    go true b p q = refl
-    go false true p q = refl
-    go false false p q = nonneg-is x p ∙ ap not q
+max-zero-nonneg x = nonneg-of-le (maxF x zeroF) (max-ge-right x zeroF (nonneg-no-nan zeroF zero-nonneg))
 
+-- zero changes no such value
 pub max-zero-same : (x : Float) → nonnegF x ≡ true → maxF x zeroF ≡ x
-unfolding maxF
-max-zero-same x h = simp (nonneg-no-nan x h, nonneg-not-lt x h)
+max-zero-same x h = max-same x zeroF (zero-le-nonneg x h)
 
--- ---- the smaller of two
+-- of such a value and any other
+pub max-nonneg : (x y : Float) → nonnegF x ≡ true → nonnegF (maxF x y) ≡ true
+max-nonneg x y h = nonneg-of-ge x (maxF x y) h (max-ge-left x y (nonneg-no-nan x h))
+
+pub max-nonneg-right : (x y : Float) → nonnegF y ≡ true → nonnegF (maxF x y) ≡ true
+max-nonneg-right x y h = nonneg-of-ge y (maxF x y) h (max-ge-right x y (nonneg-no-nan y h))
+
+-- over a list, from such a value or from zero
+pub fold-max-nonneg : (acc : Float) (xs : List Float) → nonnegF acc ≡ true → nonnegF (foldl maxF acc xs) ≡ true
+fold-max-nonneg acc [] h = h
+fold-max-nonneg acc (x ∷ xs) h = fold-max-nonneg (maxF acc x) xs (max-nonneg acc x h)
+
+pub fold-max-zero-nonneg : (xs : List Float) → nonnegF (foldl maxF zeroF xs) ≡ true
+fold-max-zero-nonneg xs = fold-max-nonneg zeroF xs zero-nonneg
+
+-- ---- min
+-- of two such values
 pub min-nonneg : (x y : Float) → nonnegF x ≡ true → nonnegF y ≡ true → nonnegF (minF x y) ≡ true
-unfolding minF
-min-nonneg x y h k = go (isNan x) (lt y x)
-  where
-    go : (a b : Bool) → nonnegF (cond a y (cond b y x)) ≡ true
-    go true b = k
-    go false true = k
-    go false false = h
+min-nonneg x y h k = min-by (λ (m : Float). nonnegF m ≡ true) x y (λ p q. h) (λ p q. k) (λ p. k)
 
-pub min-le : (x y : Float) → isNan y ≡ false → le (minF x y) y ≡ true
-unfolding minF
-min-le x y p = go (isNan x) (lt y x) refl refl
-  where
-    go : (a b : Bool) → isNan x ≡ a → lt y x ≡ b → le (cond a y (cond b y x)) y ≡ true
-    go true b q r = le-self y p
-    go false true q r = le-self y p
-    go false false q r = le-of-not-lt y x p q r
+-- ---- finite values
+-- such a value that is not finite is +infinity
+pub nonneg-infinite : (x : Float) → nonnegF x ≡ true → finiteF x ≡ false → x ≡ infinityF
+nonneg-infinite nan h k = absurd (false≢true h)
+nonneg-infinite (inf true) h k = absurd (false≢true h)
+nonneg-infinite (inf false) h k = refl
+nonneg-infinite (fin s m e) h k = absurd (true≢false k)
 
-pub min-same : (x y : Float) → le x y ≡ true → minF x y ≡ x
-unfolding minF
-min-same x y h = simp (le-no-nan x y h .0, not-lt-of-le x y h)
+-- below a finite bound it is finite
+pub finite-of-le : (x y : Float) → nonnegF x ≡ true → le x y ≡ true → finiteF y ≡ true → finiteF x ≡ true
+finite-of-le x y h l k = go (finiteF x) refl
+  where
+    go : (b : Bool) → finiteF x ≡ b → finiteF x ≡ true
+    go true e = e
+    go false e = absurd (true≢false (sym l ∙ rw (nonneg-infinite x h e) (not-le-of-lt y infinityF (lt-infinity y k))))
