@@ -1,13 +1,13 @@
 -- `max`, `min` and `clamp` by their cases and in the order. Only this file and the functions' own proofs read the definitions' text. Assumes nothing.
 use mathlib.Core.Path.{_≡_, refl, sym, ap, _∙_}
-use mathlib.Core.Logic.{_⊎_, inl, inr}
+use mathlib.Core.Logic.{inl, inr}
 use mathlib.Core.Bool.{Bool, true, false, cond, true≢false}
 use mathlib.Core.List.{List, [], _∷_, foldl, List·Memᴰ, List·Memᴰ·not-nil, List·Memᴰ·cases-cons}
 use lib.Ieee.{Float, lt, le, isNan, ofBits}
 use Rattle.float32.specs.Helpers.{maxF, minF, clampF, zeroF, oneF}
-use Rattle.float32.proofs.Order.{le-self, le-trans, le-of-lt, le-of-not-lt, not-lt-of-le, le-no-nan, lt-nan-left, lt-nan-right, nan-same}
+use Rattle.float32.proofs.Order.{le-self, le-trans, le-of-lt, le-of-not-lt, not-lt-of-le, le-no-nan, lt-no-nan, lt-nan-left, lt-nan-right, nan-same}
 
--- ---- max and min are one choice by one test: b where a is a NaN or the test says so, else a
+-- ---- max and min are one choice by a test: b where a is a NaN or the test says so, else a
 abbrev choice : Float → Float → Bool → Float
 choice a b t = cond (isNan a) b (cond t b a)
 
@@ -26,20 +26,28 @@ module _ (a b : Float) (t : Bool) where
   choice-nan : isNan a ≡ true → choice a b t ≡ b
   choice-nan p = rw p
 
-  choice-either : (choice a b t ≡ a) ⊎ (choice a b t ≡ b)
-  choice-either = choice-by (λ (m : Float). (m ≡ a) ⊎ (m ≡ b)) a b t (λ p q. inl refl) (λ p q. inr refl) (λ p. inr refl)
+  choice-nan-right : isNan b ≡ true → t ≡ false → choice a b t ≡ a
+  choice-nan-right n q = choice-by (λ (m : Float). m ≡ a) a b t (λ p u. refl) (λ p u. absurd (true≢false (sym u ∙ q))) (λ p. nan-same b a n p)
 
-  -- where no order holds between a and b, b being a NaN
-  choice-right : isNan b ≡ true → t ≡ false → choice a b t ≡ a
-  choice-right n q = choice-by (λ (m : Float). m ≡ a) a b t (λ p u. refl) (λ p u. absurd (true≢false (sym u ∙ q))) (λ p. nan-same b a n p)
+-- the choice and the order R, which is ≤ for max and ≥ for min: the test passes only where R a b, and fails only where R b a
+module _ (R : Float → Float → Bool) (self : (x : Float) → isNan x ≡ false → R x x ≡ true) (a b : Float) (t : Bool) where
+  choice-left : (t ≡ true → R a b ≡ true) → isNan a ≡ false → R a (choice a b t) ≡ true
+  choice-left passed p = choice-by (λ (m : Float). R a m ≡ true) a b t (λ q u. self a p) (λ q u. passed u) (λ n. absurd (true≢false (sym n ∙ p)))
+
+  choice-right : (isNan a ≡ false → t ≡ false → R b a ≡ true) → isNan b ≡ false → R b (choice a b t) ≡ true
+  choice-right failed p = choice-by (λ (m : Float). R b m ≡ true) a b t failed (λ q u. self b p) (λ n. self b p)
 
 -- ---- max
--- a proof by max's cases
-pub max-by : (P : Float → Type 0) (x y : Float) → (isNan x ≡ false → lt x y ≡ false → P x) → (isNan x ≡ false → lt x y ≡ true → P y) → (isNan x ≡ true → P y) → P (maxF x y)
-unfolding maxF
-max-by P x y = choice-by P x y (lt x y)
-
 module _ (x y : Float) where
+  -- a proof by its cases
+  pub max-by : (P : Float → Type 0) → (isNan x ≡ false → lt x y ≡ false → P x) → (isNan x ≡ false → lt x y ≡ true → P y) → (isNan x ≡ true → P y) → P (maxF x y)
+  unfolding maxF
+  max-by P = choice-by P x y (lt x y)
+
+  -- what holds of both holds of it
+  pub max-all : (P : Float → Type 0) → P x → P y → P (maxF x y)
+  max-all P h k = max-by P (λ p q. h) (λ p q. k) (λ p. k)
+
   -- by one test, where the first is no NaN
   pub max-is : isNan x ≡ false → maxF x y ≡ cond (lt x y) y x
   unfolding maxF
@@ -50,39 +58,36 @@ module _ (x y : Float) where
   unfolding maxF
   max-nan-left = choice-nan x y (lt x y)
 
+  -- also where it is the second
   pub max-nan-right : isNan y ≡ true → maxF x y ≡ x
   unfolding maxF
-  max-nan-right n = choice-right x y (lt x y) n (lt-nan-right x y n)
+  max-nan-right n = choice-nan-right x y (lt x y) n (lt-nan-right x y n)
 
-  -- it is one of the two
-  pub max-either : (maxF x y ≡ x) ⊎ (maxF x y ≡ y)
-  unfolding maxF
-  max-either = choice-either x y (lt x y)
-
-  -- the first, unless the second is above it
+  -- the first, where the second is no larger
   pub max-same : le y x ≡ true → maxF x y ≡ x
   max-same h = max-is (le-no-nan y x h .1) ∙ rw (not-lt-of-le y x h)
 
+  -- the second, where it is larger
   pub max-other : lt x y ≡ true → maxF x y ≡ y
-  max-other h = max-is (le-no-nan x y (le-of-lt x y h) .0) ∙ rw h
+  max-other h = max-is (lt-no-nan x y h .0) ∙ rw h
 
-  -- no smaller than either
+  -- no smaller than the first
   pub max-ge-left : isNan x ≡ false → le x (maxF x y) ≡ true
-  max-ge-left p = max-by (λ (m : Float). le x m ≡ true) x y (λ q h. le-self x p) (λ q h. le-of-lt x y h) (λ n. absurd (true≢false (sym n ∙ p)))
+  unfolding maxF
+  max-ge-left = choice-left le le-self x y (lt x y) (le-of-lt x y)
 
+  -- nor than the second
   pub max-ge-right : isNan y ≡ false → le y (maxF x y) ≡ true
-  max-ge-right p = max-by (λ (m : Float). le y m ≡ true) x y (λ q h. le-of-not-lt x y q p h) (λ q h. le-self y p) (λ n. le-self y p)
+  unfolding maxF
+  max-ge-right p = choice-right le le-self x y (lt x y) (λ q h. le-of-not-lt x y q p h) p
 
--- no larger than what is no smaller than both
-pub max-least : (x y z : Float) → le x z ≡ true → le y z ≡ true → le (maxF x y) z ≡ true
-max-least x y z h k = max-by (λ (m : Float). le m z ≡ true) x y (λ p q. h) (λ p q. k) (λ p. k)
+  -- no NaN where the first is none
+  pub max-no-nan : isNan x ≡ false → isNan (maxF x y) ≡ false
+  max-no-nan p = le-no-nan x (maxF x y) (max-ge-left p) .1
 
--- no NaN where one of the two is none
-pub max-no-nan : (x y : Float) → isNan x ≡ false → isNan (maxF x y) ≡ false
-max-no-nan x y p = le-no-nan x (maxF x y) (max-ge-left x y p) .1
-
-pub max-no-nan-right : (x y : Float) → isNan y ≡ false → isNan (maxF x y) ≡ false
-max-no-nan-right x y p = le-no-nan y (maxF x y) (max-ge-right x y p) .1
+  -- nor where the second is none
+  pub max-no-nan-right : isNan y ≡ false → isNan (maxF x y) ≡ false
+  max-no-nan-right p = le-no-nan y (maxF x y) (max-ge-right p) .1
 
 -- ---- max over a list, from a value that is no NaN
 -- by one test for each element
@@ -104,12 +109,19 @@ fold-max-each acc (y ∷ xs) x p q m = elim (List·Memᴰ·cases-cons m) [
 ]
 
 -- ---- min
--- a proof by min's cases
-pub min-by : (P : Float → Type 0) (x y : Float) → (isNan x ≡ false → lt y x ≡ false → P x) → (isNan x ≡ false → lt y x ≡ true → P y) → (isNan x ≡ true → P y) → P (minF x y)
-unfolding minF
-min-by P x y = choice-by P x y (lt y x)
+abbrev ge : Float → Float → Bool
+ge x y = le y x
 
 module _ (x y : Float) where
+  -- a proof by its cases
+  pub min-by : (P : Float → Type 0) → (isNan x ≡ false → lt y x ≡ false → P x) → (isNan x ≡ false → lt y x ≡ true → P y) → (isNan x ≡ true → P y) → P (minF x y)
+  unfolding minF
+  min-by P = choice-by P x y (lt y x)
+
+  -- what holds of both holds of it
+  pub min-all : (P : Float → Type 0) → P x → P y → P (minF x y)
+  min-all P h k = min-by P (λ p q. h) (λ p q. k) (λ p. k)
+
   -- by one test, where the first is no NaN
   pub min-is : isNan x ≡ false → minF x y ≡ cond (lt y x) y x
   unfolding minF
@@ -120,39 +132,36 @@ module _ (x y : Float) where
   unfolding minF
   min-nan-left = choice-nan x y (lt y x)
 
+  -- also where it is the second
   pub min-nan-right : isNan y ≡ true → minF x y ≡ x
   unfolding minF
-  min-nan-right n = choice-right x y (lt y x) n (lt-nan-left y x n)
+  min-nan-right n = choice-nan-right x y (lt y x) n (lt-nan-left y x n)
 
-  -- it is one of the two
-  pub min-either : (minF x y ≡ x) ⊎ (minF x y ≡ y)
-  unfolding minF
-  min-either = choice-either x y (lt y x)
-
-  -- the first, unless the second is below it
+  -- the first, where the second is no smaller
   pub min-same : le x y ≡ true → minF x y ≡ x
   min-same h = min-is (le-no-nan x y h .0) ∙ rw (not-lt-of-le x y h)
 
+  -- the second, where it is smaller
   pub min-other : lt y x ≡ true → minF x y ≡ y
-  min-other h = min-is (le-no-nan y x (le-of-lt y x h) .1) ∙ rw h
+  min-other h = min-is (lt-no-nan y x h .1) ∙ rw h
 
-  -- no larger than the second, and than the first
+  -- no larger than the second
   pub min-le : isNan y ≡ false → le (minF x y) y ≡ true
-  min-le p = min-by (λ (m : Float). le m y ≡ true) x y (λ q h. le-of-not-lt y x p q h) (λ q h. le-self y p) (λ n. le-self y p)
+  unfolding minF
+  min-le p = choice-right ge le-self x y (lt y x) (λ q h. le-of-not-lt y x p q h) p
 
+  -- nor than the first
   pub min-le-left : isNan x ≡ false → le (minF x y) x ≡ true
-  min-le-left p = min-by (λ (m : Float). le m x ≡ true) x y (λ q h. le-self x p) (λ q h. le-of-lt y x h) (λ n. absurd (true≢false (sym n ∙ p)))
+  unfolding minF
+  min-le-left = choice-left ge le-self x y (lt y x) (le-of-lt y x)
 
--- no smaller than what is no larger than both
-pub min-greatest : (x y z : Float) → le z x ≡ true → le z y ≡ true → le z (minF x y) ≡ true
-min-greatest x y z h k = min-by (λ (m : Float). le z m ≡ true) x y (λ p q. h) (λ p q. k) (λ p. k)
+  -- no NaN where the first is none
+  pub min-no-nan : isNan x ≡ false → isNan (minF x y) ≡ false
+  min-no-nan p = le-no-nan (minF x y) x (min-le-left p) .0
 
--- no NaN where one of the two is none
-pub min-no-nan : (x y : Float) → isNan x ≡ false → isNan (minF x y) ≡ false
-min-no-nan x y p = le-no-nan (minF x y) x (min-le-left x y p) .0
-
-pub min-no-nan-right : (x y : Float) → isNan y ≡ false → isNan (minF x y) ≡ false
-min-no-nan-right x y p = le-no-nan (minF x y) y (min-le x y p) .0
+  -- nor where the second is none
+  pub min-no-nan-right : isNan y ≡ false → isNan (minF x y) ≡ false
+  min-no-nan-right p = le-no-nan (minF x y) y (min-le p) .0
 
 -- ---- clamp
 module _ (x lo hi : Float) where
@@ -175,12 +184,13 @@ module _ (x lo hi : Float) where
   unfolding clampF
   clamp-same h k = rw (not-lt-of-le lo x h, not-lt-of-le x hi k)
 
-  -- what is no NaN comes between them
+  -- what is no NaN comes to the lower bound at least
   pub clamp-ge : isNan x ≡ false → le lo hi ≡ true → le lo (clampF x lo hi) ≡ true
   clamp-ge p h =
       let n = le-no-nan lo hi h .0 in
       clamp-by (λ (m : Float). le lo m ≡ true) (λ a. le-self lo n) (λ a b. h) (λ a b. le-of-not-lt x lo p n a)
 
+  -- and to the upper one at most
   pub clamp-le : isNan x ≡ false → le lo hi ≡ true → le (clampF x lo hi) hi ≡ true
   clamp-le p h =
       let n = le-no-nan lo hi h .1 in

@@ -1,9 +1,8 @@
--- `x != x` is the test for a NaN; the exponent's field of a bit pattern is the test for a finite value. Assumes nothing.
+-- The tests for a NaN and for a finite value, by comparison and from the bits. Assumes nothing.
 use mathlib.Core.Path.{_≡_, refl, sym, ap, subst, _∙_}
 use mathlib.Core.Bool.{Bool, true, false, not, cond, _&&_, Bool·beq, _||_}
 use Prim.Native.Nat.{ℕ, zero, suc, _*_, _+_, _/_, _%_}
 use lib.Dec.{T, leb, eqb, eqb-refl}
-use lib.IntN.{ℤ}
 use lib.Ieee.{Float, nan, inf, fin, Format, up, down, ne, isNan, odd, ofFields, ofBits, prec, low, ones, hid, top, fits, toBits, binary32, binary64}
 use lib.Ieee.Bits.{is-true, ofBits-toBits}
 use Rattle.float32.specs.Helpers.{finiteF}
@@ -12,6 +11,7 @@ self-level : (s : Bool) (a : ℕ) → not (eqb a a && (Bool·beq s s || eqb a 0)
 self-level true a = rw (is-true (eqb a a) (eqb-refl a))
 self-level false a = rw (is-true (eqb a a) (eqb-refl a))
 
+-- `x != x` says whether x is a NaN
 pub ne-self : (x : Float) → ne x x ≡ isNan x
 unfolding ne isNan
 ne-self nan = refl

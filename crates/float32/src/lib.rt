@@ -96,7 +96,7 @@ fn significand(n: u32, size: u32) -> u32
     nearest(n, 1 << (size - 24))
 }
 
-// `n as f32`, from the bits: the exponent's field, with the leading digit added to it; so a carry moves into it too.
+// `n as f32`, from the bits. The exponent's field is 126 + size: the significand's leading digit adds 1 of it, and a carry one more.
 pub fn from_u32(n: u32) -> f32
     ensures { λ r. ⌜ r ≡ fromU32 n ⌝ }
 {

@@ -1,5 +1,5 @@
 -- The law `ofInt-bits` at binary32, for an integer of 32 bits. Assumes nothing.
-use mathlib.Core.Path.{_≡_, sym, ap, _∙_}
+use mathlib.Core.Path.{_≡_, sym}
 use Prim.Native.Nat.{ℕ, _+_, _*_, _^_, _<_, _≤_}
 use native.Mathlib.Nat.{le-trans}
 use native.Mathlib.Omega.{arith}
@@ -9,7 +9,8 @@ use lib.Ieee.{binary32, size, ofBits}
 use lib.Ieee.Digits.{size-lt, size-le}
 use lib.Ieee.Nearest.{closest}
 use Rattle.float32.specs.Helpers.{fromU32}
-use Rattle.float32.proofs.Convert.{ofInt-bits, ofInt-zero, ofInt-no-nan, closest-le}
+use Rattle.float32.proofs.Digits.{closest-le}
+use Rattle.float32.proofs.Convert.{ofInt-bits, ofInt-zero, ofInt-no-nan}
 use Rattle.float32.proofs.from_u32.Statement.{statement}
 use Rattle.float32.proofs.from_u32.Tie as tie
 

@@ -4,7 +4,7 @@ use Prim.Native.Nat.{_^_}
 use native.Mathlib.Nat.{mod-lt}
 use native.Mathlib.Omega.{arith}
 use borrow.Author.Needs.{needs}
-use Rattle.float32.proofs.Convert.{closest-down, closest-up, closest-tie, quotient-half}
+use Rattle.float32.proofs.Digits.{closest-down, closest-up, closest-tie, quotient-half}
 use Rattle.float32.proofs.nearest.Statement.{statement}
 use Rattle.float32.proofs.nearest.Tie as tie
 

@@ -1,11 +1,11 @@
 -- Up to 24 digits nothing is dropped; above, what is left of the digits is rounded. Assumes nothing.
 use mathlib.Core.Path.{sym, ap, _∙_}
-use Prim.Native.Nat.{_-_, _<_, _≤_}
+use Prim.Native.Nat.{_-_}
 use native.Mathlib.Omega.{arith}
 use borrow.Author.Needs.{needs}
 use lib.Pow.{shl-exact, pow-lt, pow-mono}
 use lib.Ieee.Nearest.{closest}
-use Rattle.float32.proofs.Convert.{closest-whole, closest-cut, one-shifted}
+use Rattle.float32.proofs.Digits.{closest-whole, closest-cut, one-shifted}
 use Rattle.float32.proofs.significand.Statement.{statement}
 use Rattle.float32.proofs.significand.Tie as tie
 

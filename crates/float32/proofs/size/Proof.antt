@@ -1,6 +1,6 @@
 -- 32 less the leading zeros is the count of digits. Assumes nothing.
 use lib.Count.{leading-le}
-use Rattle.float32.proofs.Convert.{size-leading}
+use Rattle.float32.proofs.Digits.{size-leading}
 use Rattle.float32.proofs.size.Statement.{statement}
 use Rattle.float32.proofs.size.Tie as tie
 
