@@ -1,23 +1,17 @@
 -- The tests for a NaN and for a finite value, by comparison and from the bits. Assumes nothing.
 use mathlib.Core.Path.{_≡_, refl, sym, ap, subst, _∙_}
-use mathlib.Core.Bool.{Bool, true, false, not, cond, _&&_, Bool·beq, _||_}
-use Prim.Native.Nat.{ℕ, zero, suc, _*_, _+_, _/_, _%_}
-use lib.Dec.{T, leb, eqb, eqb-refl}
-use lib.Ieee.{Float, nan, inf, fin, Format, up, down, ne, isNan, odd, ofFields, ofBits, prec, low, ones, hid, top, fits, toBits, binary32, binary64}
-use lib.Ieee.Bits.{is-true, ofBits-toBits}
+use mathlib.Core.Bool.{Bool·not-not, Bool, true, false, not, cond}
+use Prim.Native.Nat.{ℕ, zero, suc, _+_, _/_, _%_}
+use lib.Dec.{T, leb, eqb}
+use lib.Ieee.{Float, nan, inf, fin, Format, ne, isNan, odd, ofFields, ofBits, prec, low, ones, hid, top, fits, toBits, binary32, binary64}
+use lib.Ieee.Bits.{ofBits-toBits}
 use Rattle.float32.specs.Helpers.{finiteF}
-
-self-level : (s : Bool) (a : ℕ) → not (eqb a a && (Bool·beq s s || eqb a 0)) ≡ false
-self-level true a = rw (is-true (eqb a a) (eqb-refl a))
-self-level false a = rw (is-true (eqb a a) (eqb-refl a))
+use Rattle.float32.proofs.Order.{eq-self}
 
 -- `x != x` says whether x is a NaN
 pub ne-self : (x : Float) → ne x x ≡ isNan x
-unfolding ne isNan
-ne-self nan = refl
-ne-self (inf true) = refl
-ne-self (inf false) = refl
-ne-self (fin s m e) = self-level s (m * up e * down e)
+unfolding ne
+ne-self x = ap not (eq-self x) ∙ Bool·not-not (isNan x)
 
 odd-finite : (d : ℕ) (s : Bool) (q k l : ℕ) → finiteF (odd d s q k l) ≡ true
 unfolding odd
