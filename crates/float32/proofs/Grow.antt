@@ -1,31 +1,24 @@
 -- Order of results: a sum of values that are not negative is no smaller than either, and a remainder is no larger than the divisor. Assumes nothing.
-use mathlib.Core.Path.{_≡_, refl, sym, ap, subst, _∙_}
-use mathlib.Core.Logic.{_⊎_, inl, inr}
-use mathlib.Core.Bool.{Bool, true, false, not, _&&_, _||_, cond, true≢false, false≢true, or-true}
-use Prim.Native.Nat.{ℕ, zero, suc, _+_, _-_, _*_, _%_, _^_, _<_, _≤_, zero-le}
+use mathlib.Core.Path.{_≡_, refl}
+use mathlib.Core.Bool.{Bool, true, false, not, _&&_, _||_, cond, false≢true, or-true}
+use Prim.Native.Nat.{ℕ, zero, suc, _+_, _-_, _*_, _%_, _<_, _≤_}
 use native.Mathlib.Nat.{mul-pos, mul-comm, mul-assoc, mul-left-comm, mul-le-mul-right, le-trans, le-of-eq, mod-lt, zero-mod, le-of-lt, zero-lt-suc}
 use native.Mathlib.Omega.{arith}
-use borrow.Author.Tests.{lt-ltb, le-ltb, eq-eqb, ne-eqb, eqb-true}
-use lib.Dec.{T, ltb, eqb, eqb·suc-zero}
-use lib.IntN.{ℤ, pos}
+use borrow.Author.Tests.{le-ltb, eq-eqb}
+use lib.Dec.{T, ltb, eqb·suc-zero}
+use lib.IntN.{ℤ}
 use lib.Ieee as Ieee
-use lib.Ieee.{Float, nan, inf, fin, Format, up, down, round, sum, add, rem, lt, le, eq, isNan, fits, ofBits}
+use lib.Ieee.{Float, nan, inf, fin, Format, up, down, round, sum, add, rem, le, fits, ofBits}
 use lib.Ieee.Bits.{is-true}
 use lib.Ieee.Fits.{up-pos, down-pos}
 use lib.Ieee.Exact.{HasValue}
 use lib.Ieee.Order.{round-mono}
 use Rattle.float32.specs.Helpers.{zeroF, nonnegF}
 use Rattle.float32.proofs.Order as order
-use Rattle.float32.proofs.Order.{zero-times, le-of-not-lt, le-self}
-use Rattle.float32.proofs.Nonneg.{nonneg-no-nan, nonneg-not-lt, add-nonneg, round-nonneg, or-zero, round-zero-value, zero-size, round-zero-nonneg}
+use Rattle.float32.proofs.Order.{zero-times}
+pub use Rattle.float32.proofs.Nonneg.{zero-le-nonneg}
+use Rattle.float32.proofs.Nonneg.{add-nonneg, round-nonneg, or-zero, round-zero-value, zero-size, round-zero-nonneg}
 use Rattle.float32.proofs.Value.{round-own}
-
-zero-no-nan : isNan zeroF ≡ false
-unfolding isNan ofBits
-zero-no-nan = refl
-
-pub zero-le-nonneg : (z : Float) → nonnegF z ≡ true → le zeroF z ≡ true
-zero-le-nonneg z h = le-of-not-lt z zeroF (nonneg-no-nan z h) zero-no-nan (nonneg-not-lt z h)
 
 -- a zero of either sign is no larger than zero
 zero-le-zero : (s : Bool) (m : ℕ) (e : ℤ) → m ≡ 0 → le (fin s m e) zeroF ≡ true
@@ -38,14 +31,17 @@ zero-le-zero s m e z =
     go false a b p q = rw (eq-eqb a b (omega arith)) (or-true (ltb a b))
     go true a b p q = rw (eq-eqb a b (omega arith), eq-eqb a 0 p) (or-true (ltb 0 (a + b)))
 
+-- and than a value that is not negative
 pub small-le : (s : Bool) (m : ℕ) (e : ℤ) (z : Float) → m ≡ 0 → nonnegF z ≡ true → le (fin s m e) z ≡ true
 small-le s m e z p h = order.le-trans (fin s m e) zeroF z (zero-le-zero s m e p) (zero-le-nonneg z h)
 
--- ---- a value that fits, and a fraction that is no smaller
+-- ---- a value that fits, and a fraction
+-- the fraction is no smaller, so it rounds to no less
 pub le-round : (f : Format) (m : ℕ) (e : ℤ) (a c : ℕ) → T (fits f (fin false m e)) → 0 < c → m * up e * c ≤ a * down e → le (fin false m e) (round f false a c) ≡ true
 le-round f zero e a c p C h = small-le false 0 e (round f false a c) refl (round-nonneg f a c)
 le-round f (suc m) e a c p C h = rw (← round-own f false m e p) (is-true (le (round f false (suc m * up e) (down e)) (round f false a c)) (round-mono f (suc m * up e) (down e) a c (down-pos e) C h))
 
+-- the fraction is no larger, so it rounds to no more
 pub round-le : (f : Format) (n : ℕ) (d : ℤ) (a c : ℕ) → T (fits f (fin false (suc n) d)) → 0 < c → a * down d ≤ suc n * up d * c → le (round f false a c) (fin false (suc n) d) ≡ true
 round-le f n d a c p C h = rw (← round-own f false n d p) (is-true (le (round f false a c) (round f false (suc n * up d) (down d))) (round-mono f a c (suc n * up d) (down d) C (down-pos d) h))
 
@@ -66,6 +62,7 @@ add-small f m e n d q = go (m * up e * down d) (n * up d * down e) (down e * dow
     go : (a b c : ℕ) → b ≡ 0 → cond (ltb a b) (round f true (b - a) c) (round f (false && ltb b a) (a - b) c) ≡ round f false a c
     go a b c z = rw (le-ltb a b (omega arith), less a b z)
 
+-- x + y is no smaller than x
 pub add-ge : (f : Format) (x y : Float) → T (fits f x) → nonnegF x ≡ true → nonnegF y ≡ true → le x (add f x y) ≡ true
 add-ge f nan y p h k = absurd (false≢true h)
 add-ge f (inf true) y p h k = absurd (false≢true h)
@@ -84,7 +81,7 @@ add-ge f (fin false m e) (fin true n d) p h k =
     rw (add-small f m e n d (or-zero true n k refl))
     (le-round f m e (m * up e * down d) (down e * down d) p (mul-pos (down-pos e) (down-pos d)) (le-of-eq (simp (mul-assoc, mul-comm, mul-left-comm))))
 
--- ---- the remainder by a divisor that is finite and above zero
+-- ---- the remainder, by a divisor that is finite and above zero
 round-zero-le : (f : Format) (s : Bool) (c : ℕ) → 0 < c → le (round f s 0 c) zeroF ≡ true
 round-zero-le f s c C = go (round f s 0 c) (round-zero-value f s c C)
   where
@@ -97,6 +94,7 @@ rem-is : (f : Format) (s : Bool) (m : ℕ) (e : ℤ) (n : ℕ) (d : ℤ) → rem
 unfolding rem
 rem-is f s m e n d = rw (eqb·suc-zero n)
 
+-- it is not negative where the dividend is not, and no larger than the divisor
 pub rem-le : (f : Format) (s : Bool) (m : ℕ) (e : ℤ) (n : ℕ) (d : ℤ) → T (fits f (fin false (suc n) d)) → nonnegF (fin s m e) ≡ true
     → (nonnegF (rem f (fin s m e) (fin false (suc n) d)) ≡ true) × (le (rem f (fin s m e) (fin false (suc n) d)) (fin false (suc n) d) ≡ true)
 rem-le f false m e n d p h =

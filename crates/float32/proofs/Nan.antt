@@ -1,23 +1,17 @@
--- `x != x` is the test for a NaN; the exponent's field of a bit pattern is the test for a finite value. Assumes nothing.
+-- The tests for a NaN and for a finite value, by comparison and from the bits. Assumes nothing.
 use mathlib.Core.Path.{_≡_, refl, sym, ap, subst, _∙_}
-use mathlib.Core.Bool.{Bool, true, false, not, cond, _&&_, Bool·beq, _||_}
-use Prim.Native.Nat.{ℕ, zero, suc, _*_, _+_, _/_, _%_}
-use lib.Dec.{T, leb, eqb, eqb-refl}
-use lib.IntN.{ℤ}
-use lib.Ieee.{Float, nan, inf, fin, Format, up, down, ne, isNan, odd, ofFields, ofBits, prec, low, ones, hid, top, fits, toBits, binary32, binary64}
-use lib.Ieee.Bits.{is-true, ofBits-toBits}
+use mathlib.Core.Bool.{Bool·not-not, Bool, true, false, not, cond}
+use Prim.Native.Nat.{ℕ, zero, suc, _+_, _/_, _%_}
+use lib.Dec.{T, leb, eqb}
+use lib.Ieee.{Float, nan, inf, fin, Format, ne, isNan, odd, ofFields, ofBits, prec, low, ones, hid, top, fits, toBits, binary32, binary64}
+use lib.Ieee.Bits.{ofBits-toBits}
 use Rattle.float32.specs.Helpers.{finiteF}
+use Rattle.float32.proofs.Order.{eq-self}
 
-self-level : (s : Bool) (a : ℕ) → not (eqb a a && (Bool·beq s s || eqb a 0)) ≡ false
-self-level true a = rw (is-true (eqb a a) (eqb-refl a))
-self-level false a = rw (is-true (eqb a a) (eqb-refl a))
-
+-- `x != x` says whether x is a NaN
 pub ne-self : (x : Float) → ne x x ≡ isNan x
-unfolding ne isNan
-ne-self nan = refl
-ne-self (inf true) = refl
-ne-self (inf false) = refl
-ne-self (fin s m e) = self-level s (m * up e * down e)
+unfolding ne
+ne-self x = ap not (eq-self x) ∙ Bool·not-not (isNan x)
 
 odd-finite : (d : ℕ) (s : Bool) (q k l : ℕ) → finiteF (odd d s q k l) ≡ true
 unfolding odd
@@ -43,11 +37,20 @@ pub finite-field : (f : Format) (x : Float) → T (fits f x) → finiteF x ≡ n
 unfolding ofBits
 finite-field f x h = ap finiteF (sym (ofBits-toBits f x h)) ∙ fields-finite f (leb (top f) (toBits f x)) (toBits f x % top f / hid f) (toBits f x % hid f)
 
+-- a NaN is not finite
 pub finite-nan : (x : Float) → isNan x ≡ true → finiteF x ≡ false
 unfolding isNan
 finite-nan nan e = refl
 finite-nan (inf s) e = refl
 finite-nan (fin s m e) p = sym p
 
+-- a finite value is no NaN
+pub finite-no-nan : (x : Float) → finiteF x ≡ true → isNan x ≡ false
+unfolding isNan
+finite-no-nan nan h = sym h
+finite-no-nan (inf s) h = refl
+finite-no-nan (fin s m e) h = refl
+
+-- the test `x != x` failed
 pub no-nan : (x : Float) → ne x x ≡ false → T (not (isNan x))
 no-nan x e = subst (λ (b : Bool). T (not b)) (sym (sym (ne-self x) ∙ e)) tt

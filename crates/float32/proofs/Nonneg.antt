@@ -1,24 +1,26 @@
 -- Values that are no NaN and not below zero: sums, products, maxima and minima of them. Assumes nothing.
 use mathlib.Core.Path.{_≡_, refl, sym, ap, subst, _∙_}
-use mathlib.Core.Logic.{_⊎_, inl, inr}
+use mathlib.Core.Logic.{inl, inr}
 use mathlib.Core.Bool.{Bool, true, false, not, _&&_, _||_, cond, true≢false, false≢true, or-true}
-use Prim.Native.Nat.{ℕ, zero, suc, _+_, _-_, _*_, _^_, _<_, _≤_, zero-le}
+use mathlib.Core.List.{List, [], _∷_, foldl}
+use Prim.Native.Nat.{ℕ, zero, suc, _+_, _-_, _*_, _^_, _<_}
 use native.Mathlib.Nat.{zero-mul, mul-pos, eq-zero-or-pos, mul-comm}
 use native.Mathlib.Omega.{arith}
 use borrow.Author.Tests.{lt-ltb, le-ltb, eq-eqb, ne-eqb, ltb-true, eqb-true, not-true}
 use lib.Dec.{T, ltb, eqb, ltb→lt, lt→ltb, lit≤}
 use lib.IntN.{ℤ, pos}
 use lib.Pow.{pow-pos}
-use lib.Ieee.{Float, nan, inf, fin, Format, binary32, prec, emax, low, unlike, up, down, odd, units, round, sum, add, mul, ofInt, lt, le, eq, isNan, ofBits}
-use lib.Ieee.Bits.{is-true}
-use lib.Ieee.Fits.{up-pos, down-pos, round-is, core}
+use lib.Ieee.{Float, nan, inf, fin, Format, binary32, binary64, prec, emax, low, unlike, up, down, odd, units, round, sum, add, mul, ofInt, lt, le, isNan, ofBits}
+use lib.Ieee.Fits.{up-pos, down-pos, round-is}
 use lib.Ieee.Exact.{HasValue, round-exact}
 use lib.Ieee.Order.{round-mono}
 use lib.Ieee.Positive.{above, above-of-le, first-pos}
-use Rattle.float32.specs.Helpers.{maxF, minF, zeroF, nonnegF}
-use Rattle.float32.proofs.Order.{first-zero, zero-times, le-of-not-lt, not-lt-of-le, le-self, le-no-nan}
+use Rattle.float32.specs.Helpers.{maxF, minF, zeroF, nonnegF, finiteF, infinityF}
+use Rattle.float32.proofs.Order.{first-zero, zero-times, le-trans, le-of-not-lt, not-lt-of-le, not-le-of-lt, le-no-nan, lt-infinity}
+use Rattle.float32.proofs.MaxMin.{max-same, max-ge-left, max-ge-right, min-all}
+pub use Rattle.float32.proofs.MaxMin.{min-le, min-same}
 
--- ---- `round`
+-- ---- a fraction, rounded
 odd-nonneg : (d q k l : ℕ) → nonnegF (odd d false q k l) ≡ true
 unfolding odd
 odd-nonneg d zero k l = refl
@@ -32,9 +34,11 @@ units-nonneg f q k = go (ltb (q * 2 ^ k) (2 ^ (low f + suc (emax f))))
     go true = odd-nonneg (suc (prec f)) q k (low f)
     go false = refl
 
+-- without a sign
 pub round-nonneg : (f : Format) (a c : ℕ) → nonnegF (round f false a c) ≡ true
 round-nonneg f a c = rw (round-is f false a c) (units-nonneg f _ _)
 
+-- a value of size 0 is written with 0
 pub zero-size : (t : Bool) (m : ℕ) (e : ℤ) (c : ℕ) → 0 < c → m * up e * c ≡ 0 * down e → m ≡ 0
 zero-size t m e c C h = first-zero m (up e) (up-pos e) (first-zero (m * up e) c C (h ∙ zero-mul (down e)))
 
@@ -43,14 +47,16 @@ zero-value nan s c C h = absurd h
 zero-value (inf t) s c C h = absurd h
 zero-value (fin t m e) s c C h = rw (eq-eqb m 0 (zero-size t m e c C (h .1))) (or-true (not t))
 
+-- zero rounds to zero
 pub round-zero-value : (f : Format) (s : Bool) (c : ℕ) → 0 < c → HasValue (round f s 0 c) s 0 c
 round-zero-value f s c C = round-exact f s 0 c 0 0 C (pow-pos (prec f)) (pow-pos (low f + suc (emax f))) (zero-mul (2 ^ low f) ∙ sym (zero-mul c))
 
--- zero of either sign
+-- and a zero of either sign is not below zero
 pub round-zero-nonneg : (f : Format) (s : Bool) (a c : ℕ) → 0 < c → a ≡ 0 → nonnegF (round f s a c) ≡ true
 round-zero-nonneg f s a c C z = rw z (zero-value (round f s 0 c) s c C (round-zero-value f s c C))
 
 -- ---- the sum
+-- with a sign it is 0
 pub or-zero : (s : Bool) (m : ℕ) → (not s || eqb m 0) ≡ true → s ≡ true → m ≡ 0
 or-zero true m h e = eqb-true m 0 h
 or-zero false m h e = absurd (false≢true e)
@@ -66,6 +72,7 @@ sum-nonneg f true a false b c C h k = go (ltb a b) (ltb b a) (le-ltb b a (omega 
     go true y e = round-nonneg f (b - a) c
     go false y e = rw e (round-nonneg f (a - b) c)
 
+-- of two such values
 pub add-nonneg : (f : Format) (x y : Float) → nonnegF x ≡ true → nonnegF y ≡ true → nonnegF (add f x y) ≡ true
 unfolding add
 add-nonneg f nan y h k = absurd (false≢true h)
@@ -81,7 +88,7 @@ add-nonneg f (fin s m e) (fin t n d) h k =
     (λ (p : s ≡ true). zero-times (down d) (zero-times (up e) (or-zero s m h p)))
     (λ (p : t ≡ true). zero-times (down e) (zero-times (up d) (or-zero t n k p)))
 
--- ---- the product: it is a NaN at 0 times an infinity, and only there
+-- ---- the product, which is a NaN at 0 times an infinity, and only there
 inf-nonneg : (t b : Bool) → (not t || b) ≡ true → isNan (cond b nan (inf t)) ≡ false → nonnegF (cond b nan (inf t)) ≡ true
 unfolding isNan
 inf-nonneg t true h n = absurd (true≢false n)
@@ -94,6 +101,7 @@ fin-nonneg f false false a b c C h k = round-nonneg f (a * b) c
 fin-nonneg f true false a b c C h k = round-zero-nonneg f true (a * b) c C (zero-times b (h refl))
 fin-nonneg f false true a b c C h k = round-zero-nonneg f true (a * b) c C (mul-comm a b ∙ zero-times a (k refl))
 
+-- of two such values, where it is no NaN
 pub mul-nonneg : (f : Format) (x y : Float) → nonnegF x ≡ true → nonnegF y ≡ true → isNan (mul f x y) ≡ false → nonnegF (mul f x y) ≡ true
 unfolding mul
 mul-nonneg f nan y h k q = absurd (false≢true h)
@@ -113,7 +121,8 @@ mul-nonneg f (fin s m e) (fin t n d) h k q =
     (λ (p : s ≡ true). zero-times (up e) (or-zero s m h p))
     (λ (p : t ≡ true). zero-times (up d) (or-zero t n k p))
 
--- ---- above zero, an infinity included: the product of two such values is no NaN
+-- ---- above zero, an infinity included
+-- by the comparison
 pub above-of-lt : (x : Float) → lt zeroF x ≡ true → T (above x)
 unfolding lt ofBits
 above-of-lt nan h = absurd (false≢true h)
@@ -128,6 +137,7 @@ above-of-lt (fin false n d) h = lt→ltb 0 n (first-pos n (up d) (first-pos (n *
 not-zero : (n : ℕ) → T (ltb 0 n) → eqb n 0 ≡ false
 not-zero n h = ne-eqb n 0 (λ (e : n ≡ 0). omega (arith, ltb→lt 0 n h))
 
+-- the product of two values above zero is no NaN
 pub mul-above : (f : Format) (x y : Float) → T (above x) → T (above y) → nonnegF (mul f x y) ≡ true
 unfolding mul
 mul-above f nan y h k = absurd h
@@ -144,27 +154,31 @@ mul-above f (fin false m e) (inf false) h k = rw (not-zero m h)
 mul-above f (fin false m e) (fin true n d) h k = absurd k
 mul-above f (fin false m e) (fin false n d) h k = round-nonneg f (m * up e * (n * up d)) (down e * down d)
 
--- an integer from 1 up is above zero as a float
-one-round : round binary32 false 1 1 ≡ fin false 1 (pos 0)
+one-round : (f : Format) → round f false 1 1 ≡ fin false 1 (pos 0)
 unfolding round
-one-round = refl
+one-round binary32 = refl
+one-round binary64 = refl
 
-pub ofInt-above : (n : ℕ) → 0 < n → T (above (ofInt binary32 (pos n)))
+-- an integer from 1 up is above zero as a float
+pub ofInt-above : (f : Format) (n : ℕ) → 0 < n → T (above (ofInt f (pos n)))
 unfolding ofInt
-ofInt-above n h =
-    above-of-le (fin false 1 (pos 0)) (round binary32 false n 1) tt
-    (subst (λ (x : Float). T (le x (round binary32 false n 1))) one-round (round-mono binary32 1 1 n 1 (lit≤ tt) (lit≤ tt) (omega arith)))
+ofInt-above f n h =
+    above-of-le (fin false 1 (pos 0)) (round f false n 1) tt
+    (subst (λ (x : Float). T (le x (round f false n 1))) (one-round f) (round-mono f 1 1 n 1 (lit≤ tt) (lit≤ tt) (omega arith)))
 
+-- a base above zero times a count of 1 or more: the run
 pub times-count : (base : Float) (n : ℕ) → lt zeroF base ≡ true → 0 < n → nonnegF (mul binary32 base (ofInt binary32 (pos n))) ≡ true
-times-count base n h k = mul-above binary32 base (ofInt binary32 (pos n)) (above-of-lt base h) (ofInt-above n k)
+times-count base n h k = mul-above binary32 base (ofInt binary32 (pos n)) (above-of-lt base h) (ofInt-above binary32 n k)
 
 -- ---- `nonnegF` by comparisons
+-- such a value is no NaN
 pub nonneg-no-nan : (x : Float) → nonnegF x ≡ true → isNan x ≡ false
 unfolding isNan
 nonneg-no-nan nan h = sym h
 nonneg-no-nan (inf s) h = refl
 nonneg-no-nan (fin s m e) h = refl
 
+-- off NaN it is one test
 pub nonneg-is : (x : Float) → isNan x ≡ false → nonnegF x ≡ not (lt x zeroF)
 unfolding lt isNan ofBits
 nonneg-is nan p = absurd (true≢false p)
@@ -176,42 +190,70 @@ nonneg-is (fin true m e) p = elim (eq-zero-or-pos m) [
   | inr q ↦ simp (ne-eqb m 0 (λ (z : m ≡ 0). omega arith), lt-ltb 0 (m * up e * 1 + 0 * down e) (omega (arith, mul-pos q (up-pos e))))
 ]
 
+-- not below zero
 pub nonneg-not-lt : (x : Float) → nonnegF x ≡ true → lt x zeroF ≡ false
 nonneg-not-lt x h = not-true _ (sym (nonneg-is x (nonneg-no-nan x h)) ∙ h)
 
--- ---- the larger of x and zero
+-- 0.0 is such a value
+pub zero-nonneg : nonnegF zeroF ≡ true
+unfolding ofBits
+zero-nonneg = refl
+
+-- zero is no larger than such a value
+pub zero-le-nonneg : (x : Float) → nonnegF x ≡ true → le zeroF x ≡ true
+zero-le-nonneg x h = le-of-not-lt x zeroF (nonneg-no-nan x h) (nonneg-no-nan zeroF zero-nonneg) (nonneg-not-lt x h)
+
+-- and what is no smaller than zero is one
+pub nonneg-of-le : (x : Float) → le zeroF x ≡ true → nonnegF x ≡ true
+nonneg-of-le x h = nonneg-is x (le-no-nan zeroF x h .1) ∙ ap not (not-lt-of-le zeroF x h)
+
+-- so is what is no smaller than such a value
+pub nonneg-of-ge : (x y : Float) → nonnegF x ≡ true → le x y ≡ true → nonnegF y ≡ true
+nonneg-of-ge x y h k = nonneg-of-le y (le-trans zeroF x y (zero-le-nonneg x h) k)
+
+-- ---- max
+-- of any value and zero
 pub max-zero-nonneg : (x : Float) → nonnegF (maxF x zeroF) ≡ true
-unfolding maxF ofBits
-max-zero-nonneg x = go (isNan x) (lt x zeroF) refl refl
-  where
-    go : (a b : Bool) → isNan x ≡ a → lt x zeroF ≡ b → nonnegF (cond a zeroF (cond b zeroF x)) ≡ true
-    go true b p q = refl
-    go false true p q = refl
-    go false false p q = nonneg-is x p ∙ ap not q
+max-zero-nonneg x = nonneg-of-le (maxF x zeroF) (max-ge-right x zeroF (nonneg-no-nan zeroF zero-nonneg))
 
+-- zero changes no such value
 pub max-zero-same : (x : Float) → nonnegF x ≡ true → maxF x zeroF ≡ x
-unfolding maxF
-max-zero-same x h = simp (nonneg-no-nan x h, nonneg-not-lt x h)
+max-zero-same x h = max-same x zeroF (zero-le-nonneg x h)
 
--- ---- the smaller of two
+-- of such a value and any other
+pub max-nonneg : (x y : Float) → nonnegF x ≡ true → nonnegF (maxF x y) ≡ true
+max-nonneg x y h = nonneg-of-ge x (maxF x y) h (max-ge-left x y (nonneg-no-nan x h))
+
+-- also where it is the second
+pub max-nonneg-right : (x y : Float) → nonnegF y ≡ true → nonnegF (maxF x y) ≡ true
+max-nonneg-right x y h = nonneg-of-ge y (maxF x y) h (max-ge-right x y (nonneg-no-nan y h))
+
+-- over a list, from such a value
+pub fold-max-nonneg : (acc : Float) (xs : List Float) → nonnegF acc ≡ true → nonnegF (foldl maxF acc xs) ≡ true
+fold-max-nonneg acc [] h = h
+fold-max-nonneg acc (x ∷ xs) h = fold-max-nonneg (maxF acc x) xs (max-nonneg acc x h)
+
+-- over a list, from zero: the base
+pub fold-max-zero-nonneg : (xs : List Float) → nonnegF (foldl maxF zeroF xs) ≡ true
+fold-max-zero-nonneg xs = fold-max-nonneg zeroF xs zero-nonneg
+
+-- ---- min
+-- of two such values
 pub min-nonneg : (x y : Float) → nonnegF x ≡ true → nonnegF y ≡ true → nonnegF (minF x y) ≡ true
-unfolding minF
-min-nonneg x y h k = go (isNan x) (lt y x)
-  where
-    go : (a b : Bool) → nonnegF (cond a y (cond b y x)) ≡ true
-    go true b = k
-    go false true = k
-    go false false = h
+min-nonneg x y h k = min-all x y (λ (m : Float). nonnegF m ≡ true) h k
 
-pub min-le : (x y : Float) → isNan y ≡ false → le (minF x y) y ≡ true
-unfolding minF
-min-le x y p = go (isNan x) (lt y x) refl refl
-  where
-    go : (a b : Bool) → isNan x ≡ a → lt y x ≡ b → le (cond a y (cond b y x)) y ≡ true
-    go true b q r = le-self y p
-    go false true q r = le-self y p
-    go false false q r = le-of-not-lt y x p q r
+-- ---- finite values
+-- such a value that is not finite is +infinity
+pub nonneg-infinite : (x : Float) → nonnegF x ≡ true → finiteF x ≡ false → x ≡ infinityF
+nonneg-infinite nan h k = absurd (false≢true h)
+nonneg-infinite (inf true) h k = absurd (false≢true h)
+nonneg-infinite (inf false) h k = refl
+nonneg-infinite (fin s m e) h k = absurd (true≢false k)
 
-pub min-same : (x y : Float) → le x y ≡ true → minF x y ≡ x
-unfolding minF
-min-same x y h = simp (le-no-nan x y h .0, not-lt-of-le x y h)
+-- below a finite bound it is finite
+pub finite-of-le : (x y : Float) → nonnegF x ≡ true → le x y ≡ true → finiteF y ≡ true → finiteF x ≡ true
+finite-of-le x y h l k = go (finiteF x) refl
+  where
+    go : (b : Bool) → finiteF x ≡ b → finiteF x ≡ true
+    go true e = e
+    go false e = absurd (true≢false (sym l ∙ rw (nonneg-infinite x h e) (not-le-of-lt y infinityF (lt-infinity y k))))

@@ -1,6 +1,8 @@
 // Rust's helpers on f32 that the language lacks (paper 01, part 1), worked out by tests and from the bits.
 ghost use mathlib.Core.Path.{_≡_};
+ghost use Prim.Native.Nat.{_*_, _^_, _<_, _≤_};
 ghost use lib.Ieee as Ieee;
+ghost use lib.Ieee.Nearest.{closest};
 ghost use Rattle.float32.specs.Helpers.{maxF, minF, clampF, finiteF, infinityF, fromU32, toU32};
 
 // `a.max(b)`: a NaN operand gives the other one, equal operands the first.
@@ -60,11 +62,49 @@ pub fn is_finite(x: f32) -> bool
     b % 0x8000_0000 / 0x80_0000 != 255
 }
 
-// `n as f32`
+// The count of n's binary digits.
+fn size(n: u32) -> u32
+    ensures { λ r. ⌜ r ≡ Ieee.size n ⌝ }
+{
+    32 - u32::leading_zeros(n)
+}
+
+// n / unit, rounded to the nearest whole number, a tie to the even one.
+fn nearest(n: u32, unit: u32) -> u32
+    requires { ⌜ (1 < unit) × (unit ≤ 2 ^ 31) ⌝ }
+    ensures { λ r. ⌜ r ≡ closest n unit ⌝ }
+{
+    let kept = n / unit;
+    let twice = n % unit * 2;
+    if twice < unit {
+        return kept;
+    }
+    if unit < twice {
+        return kept + 1;
+    }
+    kept + kept % 2
+}
+
+// The 24 leading binary digits of n, which has `size` of them: 2^24 where the rounding carries.
+fn significand(n: u32, size: u32) -> u32
+    requires { ⌜ (n < 2 ^ size) × (size ≤ 32) ⌝ }
+    ensures { λ r. ⌜ r ≡ closest (n * 2 ^ 24) (2 ^ size) ⌝ }
+{
+    if size <= 24 {
+        return n << (24 - size);
+    }
+    nearest(n, 1 << (size - 24))
+}
+
+// `n as f32`, from the bits. The exponent's field is 126 + size: the significand's leading digit adds 1 of it, and a carry one more.
 pub fn from_u32(n: u32) -> f32
     ensures { λ r. ⌜ r ≡ fromU32 n ⌝ }
 {
-    std::num::nearest_u32_to_f32(n)
+    if n == 0 {
+        return 0.0;
+    }
+    let size = size(n);
+    f32::from_bits((125 + size) * 0x80_0000 + significand(n, size))
 }
 
 // `x as u32`

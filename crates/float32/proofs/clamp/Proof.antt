@@ -1,4 +1,4 @@
--- Assumes nothing.
+-- Each return is a case of `clampF`. Assumes nothing.
 use Rattle.float32.specs.Helpers.{clampF}
 use Rattle.float32.proofs.clamp.Statement.{statement}
 use Rattle.float32.proofs.clamp.Tie as tie

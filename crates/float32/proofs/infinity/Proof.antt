@@ -1,4 +1,4 @@
--- Assumes nothing.
+-- 1 / 0 is +infinity. Assumes nothing.
 use mathlib.Core.Path.{refl}
 use lib.Ieee.{div, ofBits}
 use Rattle.float32.proofs.infinity.Statement.{statement}

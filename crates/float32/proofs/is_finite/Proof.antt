@@ -1,4 +1,4 @@
--- Assumes nothing.
+-- The law `finite-field` at binary32; a NaN is tested apart. Assumes nothing.
 use mathlib.Core.Path.{sym, _∙_}
 use borrow.Author.Needs.{needs}
 use lib.Ieee.{binary32}

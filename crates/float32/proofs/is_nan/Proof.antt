@@ -1,4 +1,4 @@
--- Assumes nothing.
+-- `x != x` is the test for a NaN. Assumes nothing.
 use Rattle.float32.proofs.Nan.{ne-self}
 use Rattle.float32.proofs.is_nan.Statement.{statement}
 use Rattle.float32.proofs.is_nan.Tie as tie

@@ -1,4 +1,4 @@
--- Assumes nothing.
+-- The laws of Cut at 32 bits, and at the 64 of the cast. Assumes nothing.
 use mathlib.Core.Path.{_∙_}
 use lib.Dec.{lit≤}
 use lib.Ieee.{ofBits, neg}
