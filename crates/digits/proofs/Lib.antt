@@ -3,3 +3,4 @@ pub mod Length
 pub mod Places
 pub mod Room
 pub mod Write
+pub mod Claim

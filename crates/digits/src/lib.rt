@@ -4,6 +4,7 @@ ghost use Prim.Native.Nat.{_+_, _<_, _≤_};
 ghost use lib.Dec.{leb};
 ghost use lib.ListN.{length};
 ghost use Rattle.digits.specs.Digits.{codeOf, digits, hexText, decimalPlaces, decimal, over, Put};
+ghost use Rattle.digits.specs.Claim.{Claim};
 
 // Writes n at `at` in decimal, and answers how many bytes were written.
 pub fn put_decimal(n: usize, out: &mut [u8], at: usize) -> usize
@@ -90,3 +91,8 @@ fn fits(width: usize, at: usize, len: usize) -> bool
     }
     width <= len - at
 }
+
+// What is claimed of the texts, as a contract: without it the crate is not proved.
+pub fn claimed()
+    ensures { λ r. ⌜ Claim ⌝ }
+{}
