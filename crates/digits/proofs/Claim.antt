@@ -1,7 +1,7 @@
 -- Texts of digits read back, and have digits only: at any base up to 16, and so in decimal and in hex.
 use Prim.Native.Nat.{ℕ, zero, suc, _+_, _-_, _*_, _/_, _%_, _^_, _≤_, _<_}
 use mathlib.Core.Path.{_≡_, refl, sym, ap, _∙_}
-use mathlib.Core.Logic.{_⊎_, inl, inr}
+use mathlib.Core.Logic.{inl, inr}
 use mathlib.Core.Bool.{Bool, true, false}
 use mathlib.Core.List.{List, [], _∷_, _++_, foldl-append}
 use native.Mathlib.Nat.{pow-zero, pow-suc, mod-lt, div-add-mod', div-lt-iff-lt-mul, eq-or-lt-of-le, not-suc-le-zero}
@@ -10,8 +10,8 @@ use borrow.Author.Tests.{lt-ltb, le-ltb, ltb-true, ltb-false}
 use lib.Dec.{ltb, lit<, lit≤}
 use lib.ListN.{length, getD, List·getD-append}
 use lib.Seq.{getD-at}
-use Rattle.digits.specs.Digits.{codeOf, digits, decimal, decimalPlaces, digitOf, fromDigits}
-use Rattle.digits.specs.Claim.{DecimalReads, DecimalTells, DecimalSome, DecimalLeast, DecimalWord, DecimalBytes, HexReads, HexWide, Claim}
+use Rattle.digits.specs.Digits.{codeOf, digits, decimal, decimalPlacesFrom, decimalPlaces, digitOf, fromDigits}
+use Rattle.digits.specs.Claim.{DecimalReads, DecimalTells, DecimalSome, DecimalLeast, DecimalWord, DecimalBytes, HexReads, HexWide, Worked, Claim}
 use Rattle.digits.proofs.Length.{length-digits}
 use Rattle.digits.proofs.Places.{places-pos, places-enough, places-least}
 
@@ -103,6 +103,10 @@ hex-reads w n h = reads 16 (lit< tt) (lit≤ tt) w n h
 pub hex-wide : HexWide
 hex-wide w n = length-digits 16 w n
 
+worked : Worked
+unfolding codeOf digits decimalPlacesFrom decimalPlaces decimal
+worked = (refl, refl, refl, refl)
+
 pub claim : Claim
 claim =
     record {
@@ -114,4 +118,5 @@ claim =
       decimal-bytes = decimal-bytes;
       hex-reads = hex-reads;
       hex-wide = hex-wide;
+      worked = worked;
     }

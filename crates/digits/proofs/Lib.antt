@@ -2,5 +2,6 @@
 pub mod Length
 pub mod Places
 pub mod Room
+pub mod Over
 pub mod Write
 pub mod Claim

@@ -1,6 +1,7 @@
 -- What is claimed of the texts: they read back, they are as long as a buffer for them has to be, and they have digits only.
 use Prim.Native.Nat.{ℕ, _^_, _≤_, _<_}
 use mathlib.Core.Path.{_≡_}
+use mathlib.Core.List.{[], _∷_}
 use lib.ListN.{length, getD}
 use Rattle.digits.specs.Digits.{hexText, decimal, fromDecimal, fromHex}
 
@@ -16,11 +17,11 @@ DecimalTells = (m n : ℕ) → decimal m ≡ decimal n → m ≡ n
 abbrev pub DecimalSome : Type 0
 DecimalSome = (n : ℕ) → 1 ≤ length (decimal n)
 
--- and no more than the number needs, so no zero in front
+-- a decimal text has no more digits than its number needs, so no zero in front
 abbrev pub DecimalLeast : Type 0
 DecimalLeast = (n k : ℕ) → 1 ≤ k → n < 10 ^ k → length (decimal n) ≤ k
 
--- a word's has at most twenty
+-- the decimal text of a 64-bit word has at most twenty digits
 abbrev pub DecimalWord : Type 0
 DecimalWord = (n : ℕ) → n < 2 ^ 64 → length (decimal n) ≤ 20
 
@@ -36,6 +37,15 @@ HexReads = (w n : ℕ) → n < 16 ^ w → fromHex (hexText w n) ≡ n
 abbrev pub HexWide : Type 0
 HexWide = (w n : ℕ) → length (hexText w n) ≡ w
 
+-- the definitions, worked out: 0, 1200, the largest word, and the bits of the float 1.0
+abbrev pub Worked : Type 0
+Worked =
+    (decimal 0 ≡ 48 ∷ [])
+    × (decimal 1200 ≡ 49 ∷ 50 ∷ 48 ∷ 48 ∷ [])
+    × (decimal 18446744073709551615 ≡ 49 ∷ 56 ∷ 52 ∷ 52 ∷ 54 ∷ 55 ∷ 52 ∷ 52 ∷ 48 ∷ 55 ∷ 51 ∷ 55 ∷ 48 ∷ 57 ∷ 53 ∷ 53 ∷ 49 ∷ 54 ∷ 49 ∷ 53 ∷ [])
+    × (hexText 8 0x3f800000 ≡ 51 ∷ 102 ∷ 56 ∷ 48 ∷ 48 ∷ 48 ∷ 48 ∷ 48 ∷ [])
+
+-- all of it, which `claimed` carries
 pub record Claim : Type 0 where
   pub decimal-reads : DecimalReads
   pub decimal-tells : DecimalTells
@@ -45,3 +55,4 @@ pub record Claim : Type 0 where
   pub decimal-bytes : DecimalBytes
   pub hex-reads : HexReads
   pub hex-wide : HexWide
+  pub worked : Worked

@@ -21,13 +21,14 @@ digits b (suc w) n = digits b w (n / b) ++ (codeOf (n % b) ∷ [])
 abbrev pub hexText : ℕ → ℕ → List ℕ
 hexText w n = digits 16 w n
 
--- How many decimal digits n has: one below 10, else one more than n / 10 has. The flag says that n is below 10.
+-- Decimal digits, counted: one below 10, else one more than n / 10 has. The flag says that n is below 10.
 -- The first argument is fuel, of which n is enough.
 unfoldable pub decimalPlacesFrom : ℕ → Bool → ℕ → ℕ
 decimalPlacesFrom zero small n = 1
 decimalPlacesFrom (suc k) true n = 1
 decimalPlacesFrom (suc k) false n = suc (decimalPlacesFrom k (ltb (n / 10) 10) (n / 10))
 
+-- how many decimal digits n has
 unfoldable pub decimalPlaces : ℕ → ℕ
 decimalPlaces n = decimalPlacesFrom n (ltb n 10) n
 
@@ -45,9 +46,11 @@ digitOf c = cond (ltb c 97) (c - 48) (c - 87)
 unfoldable pub fromDigits : ℕ → List ℕ → ℕ
 fromDigits b text = foldl (λ v c. v * b + digitOf c) 0 text
 
+-- the number that a decimal text stands for
 abbrev pub fromDecimal : List ℕ → ℕ
 fromDecimal text = fromDigits 10 text
 
+-- the number that a hex text stands for
 abbrev pub fromHex : List ℕ → ℕ
 fromHex text = fromDigits 16 text
 
