@@ -1,30 +1,14 @@
 -- A loop that writes a text of digits into a slice, from the last to the first: what is left to do, at each turn.
 use Prim.Native.Nat.{ℕ, zero, suc, _+_, _-_, _/_, _%_, _≤_, _<_}
-use mathlib.Core.Path.{_≡_, refl, sym, ap, _∙_}
-use mathlib.Core.List.{List, [], _∷_, _++_, append-assoc, append-nil}
-use native.Mathlib.Nat.{add-zero, add-suc, not-suc-le-zero}
-use native.Mathlib.Numerals.{add-one, sub-one}
+use mathlib.Core.Path.{_≡_, refl, sym, _∙_}
+use mathlib.Core.List.{List}
+use native.Mathlib.Nat.{not-suc-le-zero}
+use native.Mathlib.Numerals.{sub-one}
 use native.Mathlib.Omega.{arith}
-use lib.ListN.{length, take, drop, set, getD, length-set, take-append-drop}
-use lib.Seq.{take-set-le, drop-cons, drop-set-lt, getD-set-same, append-snoc}
+use lib.ListN.{length, set, length-set}
 use Rattle.digits.specs.Digits.{codeOf, digits, over}
-use Rattle.digits.proofs.Length.{length-snoc, length-digits}
-
-drop-set : (l : List ℕ) (i v : ℕ) → i < length l → drop i (set l i v) ≡ v ∷ drop (suc i) l
-drop-set l i v h =
-    let k : i < length (set l i v) = simp length-set h in
-    rw (drop-cons (set l i v) i 0, getD-set-same l i v 0, drop-set-lt (suc i) l i v (omega arith))
-
--- nothing put over a slice leaves it
-pub over-nil : (at : ℕ) (old : List ℕ) → over [] at old ≡ old
-over-nil at old = rw (add-zero, append-nil) (take-append-drop at old)
-
--- a byte stored behind a text that is still to be put is the text's last
-pub over-snoc : (text : List ℕ) (at v j : ℕ) (out : List ℕ) → length text ≡ j → at + j < length out
-    → over text at (set out (at + j) v) ≡ over (text ++ (v ∷ [])) at out
-over-snoc text at v j out e h =
-    rw (e, take-set-le at out (at + j) v (omega arith), drop-set out (at + j) v h, length-snoc text v, e, add-one j, add-suc at j)
-    (simp append-assoc)
+use Rattle.digits.proofs.Length.{length-digits}
+use Rattle.digits.proofs.Over.{over-nil, over-snoc}
 
 -- after the stores so far, out lacks the first i of the w digits of n in base b, which are those of rest
 pub record Left (b n w at : ℕ) (old out : List ℕ) (rest i : ℕ) : Type 0 where

@@ -14,7 +14,6 @@ codeOf d = cond (ltb d 10) (48 + d) (87 + d)
 
 -- the last w digits of n in base b, the most significant first
 unfoldable pub digits : ℕ → ℕ → ℕ → List ℕ
-unfolding codeOf
 digits b zero n = []
 digits b (suc w) n = digits b w (n / b) ++ (codeOf (n % b) ∷ [])
 
@@ -22,19 +21,20 @@ digits b (suc w) n = digits b w (n / b) ++ (codeOf (n % b) ∷ [])
 abbrev pub hexText : ℕ → ℕ → List ℕ
 hexText w n = digits 16 w n
 
--- How many decimal digits n has: one below 10, else one more than n / 10 has. The flag says that n is below 10.
+-- Decimal digits, counted: one below 10, else one more than n / 10 has. The flag says that n is below 10.
 -- The first argument is fuel, of which n is enough.
-unfoldable pub placesFrom : ℕ → Bool → ℕ → ℕ
-placesFrom zero small n = 1
-placesFrom (suc k) true n = 1
-placesFrom (suc k) false n = suc (placesFrom k (ltb (n / 10) 10) (n / 10))
+unfoldable pub decimalPlacesFrom : ℕ → Bool → ℕ → ℕ
+decimalPlacesFrom zero small n = 1
+decimalPlacesFrom (suc k) true n = 1
+decimalPlacesFrom (suc k) false n = suc (decimalPlacesFrom k (ltb (n / 10) 10) (n / 10))
 
-abbrev pub places : ℕ → ℕ
-places n = placesFrom n (ltb n 10) n
+-- how many decimal digits n has
+unfoldable pub decimalPlaces : ℕ → ℕ
+decimalPlaces n = decimalPlacesFrom n (ltb n 10) n
 
 -- n in decimal, with no zero in front
-abbrev pub decimal : ℕ → List ℕ
-decimal n = digits 10 (places n) n
+unfoldable pub decimal : ℕ → List ℕ
+decimal n = digits 10 (decimalPlaces n) n
 
 -- ---- read back
 
@@ -44,12 +44,13 @@ digitOf c = cond (ltb c 97) (c - 48) (c - 87)
 
 -- the number whose digits in base b a text has
 unfoldable pub fromDigits : ℕ → List ℕ → ℕ
-unfolding digitOf
 fromDigits b text = foldl (λ v c. v * b + digitOf c) 0 text
 
+-- the number that a decimal text stands for
 abbrev pub fromDecimal : List ℕ → ℕ
 fromDecimal text = fromDigits 10 text
 
+-- the number that a hex text stands for
 abbrev pub fromHex : List ℕ → ℕ
 fromHex text = fromDigits 16 text
 

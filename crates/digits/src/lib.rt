@@ -3,44 +3,75 @@ ghost use mathlib.Core.Path.{_≡_};
 ghost use Prim.Native.Nat.{_+_, _<_, _≤_};
 ghost use lib.Dec.{leb};
 ghost use lib.ListN.{length};
-ghost use Rattle.digits.specs.Digits.{codeOf, hexText, over, Put};
+ghost use Rattle.digits.specs.Digits.{codeOf, digits, hexText, decimalPlaces, decimal, over, Put};
+ghost use Rattle.digits.specs.Claim.{Claim};
+
+// Writes n at `at` in decimal, and answers how many bytes were written.
+pub fn put_decimal(n: usize, out: &mut [u8], at: usize) -> usize
+    ensures { λ r. ⌜ Put (decimal n) at (now (out .entry)) (now (out .exit)) r ⌝ }
+{
+    put_digits(n, 10, decimal_places(n), out, at)
+}
+
+// The same for a u32.
+pub fn put_decimal_u32(n: u32, out: &mut [u8], at: usize) -> usize
+    ensures { λ r. ⌜ Put (decimal n) at (now (out .entry)) (now (out .exit)) r ⌝ }
+{
+    put_decimal(n as usize, out, at)
+}
 
 // Writes n at `at` in eight lower-case hex digits, and answers how many bytes were written.
 pub fn put_hex8(n: u32, out: &mut [u8], at: usize) -> usize
     ensures { λ r. ⌜ Put (hexText 8 n) at (now (out .entry)) (now (out .exit)) r ⌝ }
 {
-    put_hex(n, 8, out, at)
+    put_digits(n as usize, 16, 8, out, at)
 }
 
 // Writes n at `at` in two lower-case hex digits, and answers how many bytes were written.
 pub fn put_hex2(n: u8, out: &mut [u8], at: usize) -> usize
     ensures { λ r. ⌜ Put (hexText 2 n) at (now (out .entry)) (now (out .exit)) r ⌝ }
 {
-    put_hex(n as u32, 2, out, at)
+    put_digits(n as usize, 16, 2, out, at)
 }
 
-fn put_hex(n: u32, width: usize, out: &mut [u8], at: usize) -> usize
-    ensures { λ r. ⌜ Put (hexText width n) at (now (out .entry)) (now (out .exit)) r ⌝ }
+// How many digits n has in decimal.
+fn decimal_places(n: usize) -> usize
+    ensures { λ r. ⌜ r ≡ decimalPlaces n ⌝ }
+{
+    let mut rest = n;
+    let mut places = 1usize;
+    while rest >= 10 {
+        rest /= 10;
+        places += 1;
+    }
+    places
+}
+
+// Writes the last width digits of n at `at`, where they have room.
+fn put_digits(n: usize, base: usize, width: usize, out: &mut [u8], at: usize) -> usize
+    requires { ⌜ (0 < base) × (base ≤ 16) ⌝ }
+    ensures { λ r. ⌜ Put (digits base width n) at (now (out .entry)) (now (out .exit)) r ⌝ }
 {
     if fits(width, at, out.len()) {
-        write_hex(n, width, out, at);
+        write_digits(n, base, width, out, at);
         return width;
     }
     0
 }
 
 // From the last digit to the first.
-fn write_hex(n: u32, width: usize, out: &mut [u8], at: usize)
+fn write_digits(n: usize, base: usize, width: usize, out: &mut [u8], at: usize)
+    requires { ⌜ (0 < base) × (base ≤ 16) ⌝ }
     requires { ⌜ at + width ≤ length (now out) ⌝ }
-    ensures { λ _. ⌜ now (out .exit) ≡ over (hexText width n) at (now (out .entry)) ⌝ }
+    ensures { λ _. ⌜ now (out .exit) ≡ over (digits base width n) at (now (out .entry)) ⌝ }
 {
     let mut rest = n;
     let mut i = width;
     while i > 0 {
         i -= 1;
         let place = at + i;
-        out[place] = code_of((rest % 16) as u8);
-        rest /= 16;
+        out[place] = code_of((rest % base) as u8);
+        rest /= base;
     }
 }
 
@@ -60,3 +91,8 @@ fn fits(width: usize, at: usize, len: usize) -> bool
     }
     width <= len - at
 }
+
+// What is claimed of the texts, as a contract: without it the crate is not proved.
+pub fn claimed()
+    ensures { λ r. ⌜ Claim ⌝ }
+{}
