@@ -1,3 +1,4 @@
+-- `hash` is the definition's: each `^` of words is its `xor`.
 use Prim.Native.Nat.{_<_, _^_}
 use native.Mathlib.Omega.{arith}
 use lib.Bits.{xor-lt}
@@ -6,23 +7,16 @@ use Rattle.tween.specs.StaggerPattern.{hash}
 use Rattle.tween.proofs.Xor.{xor-same, fold-same}
 use Rattle.tween.proofs.stagger_pattern.hash.Statement.{statement}
 use Rattle.tween.proofs.stagger_pattern.hash.Tie as tie
-use Rattle.tween.proofs.stagger_pattern.hash.Reads as reads
-use Rattle.tween.proofs.stagger_pattern.hash.Lts as lts
-use Rattle.tween.proofs.stagger_pattern.wrapping_mul.Reads as wrapping-mul-reads
 
--- src/stagger_pattern.rt:189:24
 wrapping-mul-requires : tie.Need-wrapping-mul-requires
 wrapping-mul-requires c κs = search needs
 
--- src/stagger_pattern.rt:191:5
 wrapping-mul-requires-2 : tie.Need-wrapping-mul-requires-2
 wrapping-mul-requires-2 c κs = search needs
 
--- src/stagger_pattern.rt:193:5
 wrapping-mul-requires-3 : tie.Need-wrapping-mul-requires-3
 wrapping-mul-requires-3 c κs = search needs
 
--- src/stagger_pattern.rt:186:1
 returns : tie.Need-returns
 unfolding hash
 returns c =
