@@ -24,11 +24,15 @@ returns c =
     let r : c .before .before .wrapping-mul .result < 2 ^ 32 = omega arith in
     let r2 : c .before .wrapping-mul2 .result < 2 ^ 32 = omega arith in
     let r3 : c .wrapping-mul3 .result < 2 ^ 32 = omega arith in
-    let e0 = xor-same 32 x r in
-    let e1 = fold-same 32 16 (xor-lt 32 _ _ x r) in
-    let e2 = fold-same 32 15 r2 in
-    let e3 = fold-same 32 16 r3 in
-    cc
+    rw (
+      fold-same 32 16 r3,
+      c .wrapping-mul3 .ensures,
+      fold-same 32 15 r2,
+      c .before .wrapping-mul2 .ensures,
+      fold-same 32 16 (xor-lt 32 _ _ x r),
+      xor-same 32 x r,
+      c .before .before .wrapping-mul .ensures,
+    )
 
 pub hash-spec : {M : Type 1} → statement M
 hash-spec =
