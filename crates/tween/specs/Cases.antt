@@ -3,7 +3,7 @@ use Prim.Native.Nat.{ℕ}
 use mathlib.Core.Bool.{Bool, true, _&&_}
 use mathlib.Core.List.{List, [], _∷_}
 use lib.Dec.{eqb}
-use lib.Ieee.{Float, binary32, ofBits, toBits}
+use lib.Ieee.{binary32, ofBits, toBits}
 use Rattle.float32.specs.Helpers.{oneF}
 use Rattle.refusal.specs.Refusal.{accepted}
 use Rattle.tween.specs.declared.stagger_pattern.Delay.{Delay}
@@ -20,14 +20,16 @@ pub data Case : Type 0 where
 unfoldable pub gives : Delay → ℕ → Bool
 gives d bits = eqb (d .refusal) accepted && eqb (toBits binary32 (d .delay)) bits
 
+-- the definition gives them
 unfoldable pub caseHolds : Case → Bool
 caseHolds (case pattern index bits) = gives (delayOf pattern index) bits
 
+-- of every case
 unfoldable pub allHold : List Case → Bool
 allHold [] = true
 allHold (c ∷ cs) = caseHolds c && allHold cs
 
--- a step is 1 second, so that the delay is the distance
+-- the cases, in the order of the paper; a step is 1 second, so that the delay is the distance
 unfoldable pub table : List Case
 table =
     case (Grid 4 3 Center oneF) 0 0x4000_0000

@@ -1,4 +1,4 @@
--- Delays of staggered starts (stagger_pattern.rs; paper 01, part 3). Definitions only, in the order of the Rust.
+-- Delays of staggered starts (stagger_pattern.rs; paper 01, part 3). Definitions only.
 use Prim.Native.Nat.{ℕ, zero, suc, _+_, _-_, _*_, _/_, _%_, _^_, min, max}
 use mathlib.Core.Bool.{_||_, cond}
 use lib.Dec.{leb, ltb, eqb}
@@ -15,7 +15,7 @@ use Rattle.tween.specs.declared.stagger_pattern.StaggerPattern.the-varia
 abbrev pub maxSide : ℕ
 maxSide = 65535
 
--- `abs_diff`
+-- `abs_diff`; `-` stops at 0
 abbrev pub absDiff : ℕ → ℕ → ℕ
 absDiff a b = (a - b) + (b - a)
 
@@ -27,7 +27,7 @@ finiteOr value fallback = cond (finiteF value) value fallback
 unfoldable pub distanceDelay : ℕ → Float → Float
 distanceDelay distance step = mul binary32 (fromU32 distance) (maxF (finiteOr step zeroF) zeroF)
 
--- how far `index` is from the nearer of the two middles of `count`
+-- in `center_distance` and the arm `Center`: the distance from the nearer of the two middles of `count`
 abbrev pub fromMiddle : ℕ → ℕ → ℕ
 fromMiddle index count = min (absDiff index ((count - 1) / 2)) (absDiff index (count / 2))
 

@@ -3,7 +3,7 @@ ghost use mathlib.Core.Path.{_≡_};
 ghost use Prim.Native.Nat.{_-_, _*_, _%_, _^_, _≤_, _<_, min, max};
 ghost use Rattle.tween.specs.StaggerPattern.{maxSide, absDiff, finiteOr, distanceDelay, fromMiddle, centerDistance, gridDistance, gridDelay, hash, randomDelay, centerOut, edgesIn, acceptedDelay, refusedDelay, delayOf};
 
-// Where the first cell of a grid to start is.
+// Which cells of a grid start first.
 pub enum GridOrigin {
     // The top left cell starts first.
     TopLeft,
@@ -58,7 +58,7 @@ pub struct Delay {
     pub delay: f32,
 }
 
-// The largest side of a grid.
+// The largest side of a grid: the product of two fits in a u32.
 const MAX_SIDE: u32 = 65_535;
 
 impl Delay {
@@ -165,6 +165,7 @@ fn grid_distance(origin: GridOrigin, cols: u32, rows: u32, x: u32, y: u32) -> u3
     }
 }
 
+// How far `index` is from the middle of `count` items.
 fn center_distance(index: u32, count: u32) -> u32
     ensures { λ r. ⌜ r ≡ centerDistance index count ⌝ }
 {
@@ -174,7 +175,7 @@ fn center_distance(index: u32, count: u32) -> u32
     from_middle(index, count)
 }
 
-// How far `index` is from the nearer of the two middles of `count`, which are one where `count` is odd.
+// The same where there are items: the nearer of the two middles, which are one where `count` is odd.
 fn from_middle(index: u32, count: u32) -> u32
     requires { ⌜ 0 < count ⌝ }
     ensures { λ r. ⌜ r ≡ fromMiddle index count ⌝ }
@@ -182,6 +183,7 @@ fn from_middle(index: u32, count: u32) -> u32
     min(abs_diff(index, (count - 1) / 2), abs_diff(index, count / 2))
 }
 
+// Both bounds are finite and not below 0, the upper not below the lower.
 fn random_delay(seed: u32, min_delay: f32, max_delay: f32, index: u32) -> f32
     ensures { λ r. ⌜ r ≡ randomDelay seed «min_delay» «max_delay» index ⌝ }
 {
@@ -191,7 +193,7 @@ fn random_delay(seed: u32, min_delay: f32, max_delay: f32, index: u32) -> f32
     min + (max - min) * share
 }
 
-// The random bits of an index.
+// The bits that `random_delay` takes as a share of all 32.
 fn hash(seed: u32, index: u32) -> u32
     ensures { λ r. ⌜ r ≡ hash seed index ⌝ }
 {
@@ -204,6 +206,7 @@ fn hash(seed: u32, index: u32) -> u32
     x
 }
 
+// `value`, or `fallback` where it is infinite or NaN.
 fn finite_or(value: f32, fallback: f32) -> f32
     ensures { λ r. ⌜ r ≡ finiteOr value fallback ⌝ }
 {
@@ -221,30 +224,35 @@ fn distance_delay(distance: u32, step: f32) -> f32
     float32::from_u32(distance) * float32::max(finite_or(step, 0.0), 0.0)
 }
 
+// `a.wrapping_mul(b)`
 fn wrapping_mul(a: u32, b: u32) -> u32
     ensures { λ r. ⌜ r ≡ (a * b) % 2 ^ 32 ⌝ }
 {
-    ((a as u64) * (b as u64) % 4294967296) as u32
+    ((a as u64) * (b as u64) % 0x1_0000_0000) as u32
 }
 
+// `a.abs_diff(b)`
 fn abs_diff(a: u32, b: u32) -> u32
     ensures { λ r. ⌜ r ≡ absDiff a b ⌝ }
 {
     if a < b { b - a } else { a - b }
 }
 
+// `a.saturating_sub(b)`
 fn saturating_sub(a: u32, b: u32) -> u32
     ensures { λ r. ⌜ r ≡ a - b ⌝ }
 {
     if a < b { 0 } else { a - b }
 }
 
+// `a.min(b)`
 fn min(a: u32, b: u32) -> u32
     ensures { λ r. ⌜ r ≡ min a b ⌝ }
 {
     if b < a { b } else { a }
 }
 
+// `a.max(b)`
 fn max(a: u32, b: u32) -> u32
     ensures { λ r. ⌜ r ≡ max a b ⌝ }
 {
