@@ -27,7 +27,16 @@ from-u32-requires-2 c κs = search needs
 
 returns : tie.Need-returns
 unfolding randomDelay
-returns c = cc
+returns c =
+    rw (
+      c .from-u322 .ensures,
+      c .before .from-u32 .ensures,
+      c .before .before .hash .ensures,
+      c .before .before .before .max2 .ensures,
+      c .before .before .before .before .finite-or2 .ensures,
+      c .before .before .before .before .before .max .ensures,
+      c .before .before .before .before .before .before .finite-or .ensures,
+    )
 
 pub random-delay-spec : {M : Type 1} → statement M
 random-delay-spec =
