@@ -1,2 +1,3 @@
 pub mod LoopMode
 pub mod StaggerPattern
+pub mod Cases

@@ -1,7 +1,7 @@
--- Delays of staggered starts (stagger_pattern.rs; paper 01, part 3). Definitions only, in the order of the Rust.
+-- Delays of staggered starts (stagger_pattern.rs; paper 01, part 3). Definitions only.
 use Prim.Native.Nat.{ℕ, zero, suc, _+_, _-_, _*_, _/_, _%_, _^_, min, max}
-use mathlib.Core.Bool.{Bool, true, false, _&&_, cond}
-use lib.Dec.{leb, eqb}
+use mathlib.Core.Bool.{_||_, cond}
+use lib.Dec.{leb, ltb, eqb}
 use lib.Ieee.{Float, binary32, add, sub, mul, div}
 use Rattle.float32.specs.Helpers.{zeroF, maxF, finiteF, fromU32}
 use Rattle.refusal.specs.Refusal.{accepted, gridTooLarge}
@@ -15,7 +15,7 @@ use Rattle.tween.specs.declared.stagger_pattern.StaggerPattern.the-varia
 abbrev pub maxSide : ℕ
 maxSide = 65535
 
--- `abs_diff`
+-- `abs_diff`; `-` stops at 0
 abbrev pub absDiff : ℕ → ℕ → ℕ
 absDiff a b = (a - b) + (b - a)
 
@@ -24,10 +24,10 @@ abbrev pub finiteOr : Float → Float → Float
 finiteOr value fallback = cond (finiteF value) value fallback
 
 -- `distance as f32 * finite_or(step, 0.0).max(0.0)`
-unfoldable pub stepsF : ℕ → Float → Float
-stepsF distance step = mul binary32 (fromU32 distance) (maxF (finiteOr step zeroF) zeroF)
+unfoldable pub distanceDelay : ℕ → Float → Float
+distanceDelay distance step = mul binary32 (fromU32 distance) (maxF (finiteOr step zeroF) zeroF)
 
--- how far `index` is from the nearer of the two middles of `count`
+-- in `center_distance` and the arm `Center`: the distance from the nearer of the two middles of `count`
 abbrev pub fromMiddle : ℕ → ℕ → ℕ
 fromMiddle index count = min (absDiff index ((count - 1) / 2)) (absDiff index (count / 2))
 
@@ -49,7 +49,7 @@ gridDistance Right cols rows x y = cols - 1 - x
 
 -- `grid_delay`, once neither side is 0 and the index is that of a cell
 abbrev pub cellDelay : ℕ → ℕ → GridOrigin → Float → ℕ → Float
-cellDelay cols rows origin step index = stepsF (gridDistance origin cols rows (index % cols) (index / cols)) step
+cellDelay cols rows origin step index = distanceDelay (gridDistance origin cols rows (index % cols) (index / cols)) step
 
 -- `grid_delay`: a side of 0 counts as 1, an index past the last cell as the last
 unfoldable pub gridDelay : ℕ → ℕ → GridOrigin → Float → ℕ → Float
@@ -87,25 +87,25 @@ randomDelay seed minDelay maxDelay index =
 
 -- `CenterOut`: an index past the last counts as the last
 unfoldable pub centerOut : ℕ → Float → ℕ → Float
-centerOut count step index = stepsF (centerDistance (min index (count - 1)) count) step
+centerOut count step index = distanceDelay (centerDistance (min index (count - 1)) count) step
 
 -- `EdgesIn`, likewise: the steps to the nearer end; no item at all gives 0.0
 unfoldable pub edgesIn : ℕ → Float → ℕ → Float
 edgesIn count step index =
     let i = min index (count - 1) in
-    cond (eqb count 0) zeroF (stepsF (min i (count - 1 - i)) step)
+    cond (eqb count 0) zeroF (distanceDelay (min i (count - 1 - i)) step)
 
--- the answer of a call that is accepted, and of one that is refused
-abbrev pub given : Float → Delay
-given delay = record { refusal = accepted; delay = delay }
+-- the answer of an accepted call, and of a refused one
+abbrev pub acceptedDelay : Float → Delay
+acceptedDelay delay = record { refusal = accepted; delay = delay }
 
-abbrev pub refused : Delay
-refused = record { refusal = gridTooLarge; delay = zeroF }
+abbrev pub refusedDelay : ℕ → Delay
+refusedDelay refusal = record { refusal = refusal; delay = zeroF }
 
--- `StaggerPattern::delay`; a grid side above 65,535 is refused
+-- `StaggerPattern::delay`; refusal 13: "a grid side above 65,535"
 abbrev pub delayOf : StaggerPattern → ℕ → Delay
 delayOf (Grid cols rows origin step) index =
-    cond (leb cols maxSide && leb rows maxSide) (given (gridDelay cols rows origin step index)) refused
-delayOf (Random seed minDelay maxDelay) index = given (randomDelay seed minDelay maxDelay index)
-delayOf (CenterOut count step) index = given (centerOut count step index)
-delayOf (EdgesIn count step) index = given (edgesIn count step index)
+    cond (ltb maxSide cols || ltb maxSide rows) (refusedDelay gridTooLarge) (acceptedDelay (gridDelay cols rows origin step index))
+delayOf (Random seed minDelay maxDelay) index = acceptedDelay (randomDelay seed minDelay maxDelay index)
+delayOf (CenterOut count step) index = acceptedDelay (centerOut count step index)
+delayOf (EdgesIn count step) index = acceptedDelay (edgesIn count step index)

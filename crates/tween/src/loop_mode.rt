@@ -1,6 +1,6 @@
 // Loop modes (loop_mode.rs; paper 01, part 2).
 ghost use mathlib.Core.Path.{_≡_};
-ghost use Rattle.tween.specs.LoopMode as LoopMode;
+ghost use Rattle.tween.specs.LoopMode.{passes};
 
 // What happens when the end of the duration is reached.
 pub enum Loop {
@@ -18,7 +18,7 @@ pub enum Loop {
 
 // The number of passes that a loop number stands for: 0 counts as 1.
 pub fn passes(n: u32) -> u32
-    ensures { λ r. ⌜ r ≡ LoopMode.passes n ⌝ }
+    ensures { λ r. ⌜ r ≡ passes n ⌝ }
 {
     if n == 0 { 1 } else { n }
 }

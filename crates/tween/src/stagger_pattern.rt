@@ -1,9 +1,9 @@
 // Delays of staggered starts (stagger_pattern.rs; paper 01, part 3).
 ghost use mathlib.Core.Path.{_≡_};
-ghost use Prim.Native.Nat.{_+_, _-_, _*_, _/_, _%_, _^_, _≤_, _<_, min, max};
-ghost use Rattle.tween.specs.StaggerPattern.{maxSide, absDiff, finiteOr, stepsF, fromMiddle, centerDistance, gridDistance, gridDelay, xor, hash, randomDelay, centerOut, edgesIn, given, delayOf};
+ghost use Prim.Native.Nat.{_-_, _*_, _%_, _^_, _≤_, _<_, min, max};
+ghost use Rattle.tween.specs.StaggerPattern.{maxSide, absDiff, finiteOr, distanceDelay, fromMiddle, centerDistance, gridDistance, gridDelay, hash, randomDelay, centerOut, edgesIn, acceptedDelay, refusedDelay, delayOf};
 
-// Where the first cell of a grid to start is.
+// Which cells of a grid start first.
 pub enum GridOrigin {
     // The top left cell starts first.
     TopLeft,
@@ -58,11 +58,31 @@ pub struct Delay {
     pub delay: f32,
 }
 
-// The largest side of a grid.
+// The largest side of a grid: the product of two fits in a u32.
 const MAX_SIDE: u32 = 65_535;
 
+impl Delay {
+    fn accepted(delay: f32) -> Self
+        ensures { λ r. ⌜ r ≡ acceptedDelay delay ⌝ }
+    {
+        Self {
+            refusal: refusal::ACCEPTED,
+            delay,
+        }
+    }
+
+    fn refused(refusal: u8) -> Self
+        ensures { λ r. ⌜ r ≡ refusedDelay refusal ⌝ }
+    {
+        Self {
+            refusal,
+            delay: 0.0,
+        }
+    }
+}
+
 impl StaggerPattern {
-    // The delay of the item at `index`.
+    // The delay of the item at `index`, or refusal 13 where a grid side is above the largest.
     pub fn delay(self, index: u32) -> Delay
         ensures { λ r. ⌜ r ≡ delayOf self index ⌝ }
     {
@@ -73,49 +93,37 @@ impl StaggerPattern {
                 origin,
                 step,
             } => {
-                if cols > MAX_SIDE {
-                    return Delay {
-                        refusal: refusal::GRID_TOO_LARGE,
-                        delay: 0.0,
-                    };
+                if cols > MAX_SIDE || rows > MAX_SIDE {
+                    return Delay::refused(refusal::GRID_TOO_LARGE);
                 }
-                if rows > MAX_SIDE {
-                    return Delay {
-                        refusal: refusal::GRID_TOO_LARGE,
-                        delay: 0.0,
-                    };
-                }
-                given(grid_delay(cols, rows, origin, step, index))
+                Delay::accepted(grid_delay(cols, rows, origin, step, index))
             }
             StaggerPattern::Random {
                 seed,
                 min_delay,
                 max_delay,
-            } => given(random_delay(seed, min_delay, max_delay, index)),
-            StaggerPattern::CenterOut { count, step } => given(center_out(count, step, index)),
-            StaggerPattern::EdgesIn { count, step } => given(edges_in(count, step, index)),
+            } => Delay::accepted(random_delay(seed, min_delay, max_delay, index)),
+            StaggerPattern::CenterOut { count, step } => {
+                Delay::accepted(center_out(count, step, index))
+            }
+            StaggerPattern::EdgesIn { count, step } => Delay::accepted(edges_in(
+                count,
+                step,
+                index,
+            )),
         }
     }
 }
 
-fn given(delay: f32) -> Delay
-    ensures { λ r. ⌜ r ≡ given delay ⌝ }
-{
-    Delay {
-        refusal: refusal::ACCEPTED,
-        delay,
-    }
-}
-
+// The arm `CenterOut` of `delay`: an index past the last counts as the last.
 fn center_out(count: u32, step: f32, index: u32) -> f32
     ensures { λ r. ⌜ r ≡ centerOut count step index ⌝ }
 {
-    steps(
-        center_distance(min(index, saturating_sub(count, 1)), count),
-        step,
-    )
+    let index = min(index, saturating_sub(count, 1));
+    distance_delay(center_distance(index, count), step)
 }
 
+// The arm `EdgesIn` of `delay`, likewise; with no items there is no delay.
 fn edges_in(count: u32, step: f32, index: u32) -> f32
     ensures { λ r. ⌜ r ≡ edgesIn count step index ⌝ }
 {
@@ -123,9 +131,10 @@ fn edges_in(count: u32, step: f32, index: u32) -> f32
         return 0.0;
     }
     let index = min(index, count - 1);
-    steps(min(index, count - 1 - index), step)
+    distance_delay(min(index, count - 1 - index), step)
 }
 
+// A side of 0 counts as 1, and an index past the last cell as the last.
 fn grid_delay(cols: u32, rows: u32, origin: GridOrigin, step: f32, index: u32) -> f32
     requires { ⌜ (cols ≤ maxSide) × (rows ≤ maxSide) ⌝ }
     ensures { λ r. ⌜ r ≡ gridDelay cols rows origin step index ⌝ }
@@ -135,7 +144,7 @@ fn grid_delay(cols: u32, rows: u32, origin: GridOrigin, step: f32, index: u32) -
     let index = min(index, cols * rows - 1);
     let x = index % cols;
     let y = index / cols;
-    steps(grid_distance(origin, cols, rows, x, y), step)
+    distance_delay(grid_distance(origin, cols, rows, x, y), step)
 }
 
 // How far the cell in column x and row y is from the origin.
@@ -156,6 +165,7 @@ fn grid_distance(origin: GridOrigin, cols: u32, rows: u32, x: u32, y: u32) -> u3
     }
 }
 
+// How far `index` is from the middle of `count` items.
 fn center_distance(index: u32, count: u32) -> u32
     ensures { λ r. ⌜ r ≡ centerDistance index count ⌝ }
 {
@@ -165,7 +175,7 @@ fn center_distance(index: u32, count: u32) -> u32
     from_middle(index, count)
 }
 
-// How far `index` is from the nearer of the two middles of `count`, which are one where `count` is odd.
+// The same where there are items: the nearer of the two middles, which are one where `count` is odd.
 fn from_middle(index: u32, count: u32) -> u32
     requires { ⌜ 0 < count ⌝ }
     ensures { λ r. ⌜ r ≡ fromMiddle index count ⌝ }
@@ -173,6 +183,7 @@ fn from_middle(index: u32, count: u32) -> u32
     min(abs_diff(index, (count - 1) / 2), abs_diff(index, count / 2))
 }
 
+// Both bounds are finite and not below 0, the upper not below the lower.
 fn random_delay(seed: u32, min_delay: f32, max_delay: f32, index: u32) -> f32
     ensures { λ r. ⌜ r ≡ randomDelay seed «min_delay» «max_delay» index ⌝ }
 {
@@ -182,7 +193,7 @@ fn random_delay(seed: u32, min_delay: f32, max_delay: f32, index: u32) -> f32
     min + (max - min) * share
 }
 
-// The random bits of an index.
+// The bits that `random_delay` takes as a share of all 32.
 fn hash(seed: u32, index: u32) -> u32
     ensures { λ r. ⌜ r ≡ hash seed index ⌝ }
 {
@@ -195,6 +206,7 @@ fn hash(seed: u32, index: u32) -> u32
     x
 }
 
+// `value`, or `fallback` where it is infinite or NaN.
 fn finite_or(value: f32, fallback: f32) -> f32
     ensures { λ r. ⌜ r ≡ finiteOr value fallback ⌝ }
 {
@@ -205,37 +217,42 @@ fn finite_or(value: f32, fallback: f32) -> f32
     }
 }
 
-// The seconds of so many steps; a step that is negative or not finite counts as 0.
-fn steps(distance: u32, step: f32) -> f32
-    ensures { λ r. ⌜ r ≡ stepsF distance step ⌝ }
+// The delay at a distance; a step that is negative or not finite counts as 0.
+fn distance_delay(distance: u32, step: f32) -> f32
+    ensures { λ r. ⌜ r ≡ distanceDelay distance step ⌝ }
 {
     float32::from_u32(distance) * float32::max(finite_or(step, 0.0), 0.0)
 }
 
+// `a.wrapping_mul(b)`
 fn wrapping_mul(a: u32, b: u32) -> u32
     ensures { λ r. ⌜ r ≡ (a * b) % 2 ^ 32 ⌝ }
 {
-    ((a as u64) * (b as u64) % 4294967296) as u32
+    ((a as u64) * (b as u64) % 0x1_0000_0000) as u32
 }
 
+// `a.abs_diff(b)`
 fn abs_diff(a: u32, b: u32) -> u32
     ensures { λ r. ⌜ r ≡ absDiff a b ⌝ }
 {
     if a < b { b - a } else { a - b }
 }
 
+// `a.saturating_sub(b)`
 fn saturating_sub(a: u32, b: u32) -> u32
     ensures { λ r. ⌜ r ≡ a - b ⌝ }
 {
     if a < b { 0 } else { a - b }
 }
 
+// `a.min(b)`
 fn min(a: u32, b: u32) -> u32
     ensures { λ r. ⌜ r ≡ min a b ⌝ }
 {
     if b < a { b } else { a }
 }
 
+// `a.max(b)`
 fn max(a: u32, b: u32) -> u32
     ensures { λ r. ⌜ r ≡ max a b ⌝ }
 {

@@ -1,20 +1,15 @@
+-- `center_distance` is `centerDistance`.
 use borrow.Author.Tests.{le-leb, lt-leb}
 use borrow.Author.Needs.{needs}
 use Rattle.tween.proofs.stagger_pattern.center_distance.Statement.{statement}
 use Rattle.tween.proofs.stagger_pattern.center_distance.Tie as tie
-use Rattle.tween.proofs.stagger_pattern.center_distance.Reads as reads
-use Rattle.tween.proofs.stagger_pattern.center_distance.Lts as lts
-use Rattle.tween.proofs.stagger_pattern.from_middle.Reads as from-middle-reads
 
--- src/stagger_pattern.rt:163:9
 returns : tie.Need-returns
 returns c = simp (le-leb _ _ (c .if1 .taken))
 
--- src/stagger_pattern.rt:165:5
 from-middle-requires : tie.Need-from-middle-requires
 from-middle-requires c κs = search needs
 
--- src/stagger_pattern.rt:159:1
 returns-2 : tie.Need-returns-2
 returns-2 c = simp (lt-leb _ _ (c .before .if1 .left), c .from-middle .ensures)
 

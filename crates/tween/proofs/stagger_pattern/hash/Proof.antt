@@ -1,3 +1,4 @@
+-- `hash` is the definition's: each `^` of words is its `xor`.
 use Prim.Native.Nat.{_<_, _^_}
 use native.Mathlib.Omega.{arith}
 use lib.Bits.{xor-lt}
@@ -6,23 +7,16 @@ use Rattle.tween.specs.StaggerPattern.{hash}
 use Rattle.tween.proofs.Xor.{xor-same, fold-same}
 use Rattle.tween.proofs.stagger_pattern.hash.Statement.{statement}
 use Rattle.tween.proofs.stagger_pattern.hash.Tie as tie
-use Rattle.tween.proofs.stagger_pattern.hash.Reads as reads
-use Rattle.tween.proofs.stagger_pattern.hash.Lts as lts
-use Rattle.tween.proofs.stagger_pattern.wrapping_mul.Reads as wrapping-mul-reads
 
--- src/stagger_pattern.rt:189:24
 wrapping-mul-requires : tie.Need-wrapping-mul-requires
 wrapping-mul-requires c κs = search needs
 
--- src/stagger_pattern.rt:191:5
 wrapping-mul-requires-2 : tie.Need-wrapping-mul-requires-2
 wrapping-mul-requires-2 c κs = search needs
 
--- src/stagger_pattern.rt:193:5
 wrapping-mul-requires-3 : tie.Need-wrapping-mul-requires-3
 wrapping-mul-requires-3 c κs = search needs
 
--- src/stagger_pattern.rt:186:1
 returns : tie.Need-returns
 unfolding hash
 returns c =
@@ -30,11 +24,15 @@ returns c =
     let r : c .before .before .wrapping-mul .result < 2 ^ 32 = omega arith in
     let r2 : c .before .wrapping-mul2 .result < 2 ^ 32 = omega arith in
     let r3 : c .wrapping-mul3 .result < 2 ^ 32 = omega arith in
-    let e0 = xor-same 32 x r in
-    let e1 = fold-same 32 16 (xor-lt 32 _ _ x r) in
-    let e2 = fold-same 32 15 r2 in
-    let e3 = fold-same 32 16 r3 in
-    cc
+    rw (
+      fold-same 32 16 r3,
+      c .wrapping-mul3 .ensures,
+      fold-same 32 15 r2,
+      c .before .wrapping-mul2 .ensures,
+      fold-same 32 16 (xor-lt 32 _ _ x r),
+      xor-same 32 x r,
+      c .before .before .wrapping-mul .ensures,
+    )
 
 pub hash-spec : {M : Type 1} → statement M
 hash-spec =

@@ -1,7 +1,7 @@
 -- The product of two words fits in a u64.
+use Prim.Native.Nat.{_≤_}
 use native.Mathlib.Nat.{mul-le-mul}
 use native.Mathlib.Omega.{arith}
-use Prim.Native.Nat.{_≤_}
 use borrow.Author.Needs.{needs}
 use Rattle.tween.proofs.stagger_pattern.wrapping_mul.Statement.{statement}
 use Rattle.tween.proofs.stagger_pattern.wrapping_mul.Tie as tie
