@@ -1,0 +1,19 @@
+-- `float_cases::question::shown` meets its contract. Assumes nothing.
+use mathlib.Core.Path.{sym, _∙_}
+use borrow.Author.Needs.{needs}
+use Rattle.float32.proofs.Nan.{ne-self, no-nan}
+use Rattle.float_cases.proofs.Nan.{nan-bits}
+use Rattle.float_cases.proofs.question.shown.Statement.{statement}
+use Rattle.float_cases.proofs.question.shown.Tie as tie
+
+returns : tie.Need-returns
+returns c = nan-bits _ (sym (ne-self _) ∙ c .if1 .taken)
+
+float-to-bits-result : tie.Need-float-to-bits-result
+float-to-bits-result c = no-nan _ (c .if1 .left)
+
+returns-2 : tie.Need-returns-2
+returns-2 c = search needs
+
+pub shown-spec : {M : Type 1} → statement M
+shown-spec = tie.close (tie.spec returns float-to-bits-result returns-2)

@@ -1,0 +1,74 @@
+-- What the program answers. Definitions only.
+use Prim.Native.Nat.{ℕ}
+use mathlib.Core.Bool.{Bool, cond}
+use mathlib.Core.List.{List, [], _∷_}
+use lib.Dec.{ltb}
+use lib.ListN.{getD}
+use lib.Ieee.{Float, binary32, ofBits, toBits, eq, isNan}
+use Rattle.float32.specs.Helpers.{zeroF, maxF, minF, clampF, finiteF, fromU32, toU32, infinityF}
+use Rattle.tween.specs.StaggerPattern.{delayOf}
+use Rattle.tween.specs.declared.stagger_pattern.GridOrigin.{GridOrigin}
+use Rattle.tween.specs.declared.stagger_pattern.GridOrigin.the-variants.{TopLeft, TopRight, BottomLeft, BottomRight, Center, Top, Bottom, Left, Right}
+use Rattle.tween.specs.declared.stagger_pattern.StaggerPattern.{StaggerPattern}
+use Rattle.tween.specs.declared.stagger_pattern.StaggerPattern.the-variants.{Grid, Random, CenterOut, EdgesIn}
+use Rattle.float_cases.specs.declared.question.Answer.{Answer}
+
+-- the float that bits stand for: every NaN pattern is the NaN
+abbrev pub float : ℕ → Float
+float n = ofBits binary32 n
+
+-- the bits of a float, 7fc00000 for the NaN
+abbrev pub shown : Float → ℕ
+shown x = toBits binary32 x
+
+-- ---- answers
+
+abbrev pub unknown : Answer
+unknown = record { refusal = 255; bits = 0 }
+
+abbrev pub number : ℕ → Answer
+number n = record { refusal = 0; bits = n }
+
+abbrev pub truth : Bool → Answer
+truth b = cond b (number 1) (number 0)
+
+abbrev pub exact : Float → Answer
+exact x = number (shown x)
+
+-- "zeros of either sign agree"
+abbrev pub zeroless : Float → Answer
+zeroless x = cond (eq x zeroF) (number 0) (exact x)
+
+abbrev pub delayed : StaggerPattern → ℕ → Answer
+delayed pattern index = record { refusal = delayOf pattern index .refusal; bits = zeroless (delayOf pattern index .delay) .bits }
+
+-- the origins in their order, but for the last
+abbrev pub origins : List GridOrigin
+origins = TopLeft ∷ TopRight ∷ BottomLeft ∷ BottomRight ∷ Center ∷ Top ∷ Bottom ∷ Left ∷ []
+
+abbrev pub originOf : ℕ → GridOrigin
+originOf n = getD origins n Right
+
+abbrev pub gridded : ℕ → ℕ → ℕ → Float → ℕ → Answer
+gridded cols rows origin step index = cond (ltb 8 origin) unknown (delayed (Grid cols rows (originOf origin) step) index)
+
+-- the answers to all questions on the same operands, in the order of the questions' numbers
+abbrev pub answers : ℕ → ℕ → ℕ → ℕ → ℕ → List Answer
+answers a b c d e =
+    zeroless (maxF (float a) (float b))
+    ∷ zeroless (minF (float a) (float b))
+    ∷ exact (clampF (float a) (float b) (float c))
+    ∷ truth (isNan (float a))
+    ∷ truth (finiteF (float a))
+    ∷ exact (fromU32 a)
+    ∷ number (toU32 (float a))
+    ∷ exact infinityF
+    ∷ gridded a b c (float d) e
+    ∷ delayed (Random a (float b) (float c)) d
+    ∷ delayed (CenterOut a (float b)) c
+    ∷ delayed (EdgesIn a (float b)) c
+    ∷ []
+
+-- the answer to question `op`
+unfoldable pub answerOf : ℕ → ℕ → ℕ → ℕ → ℕ → ℕ → Answer
+answerOf op a b c d e = getD (answers a b c d e) op unknown
