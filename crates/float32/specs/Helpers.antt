@@ -4,6 +4,7 @@ use Prim.Native.Nat.{ℕ}
 use mathlib.Core.Bool.{Bool, true, false, not, _||_, cond}
 use lib.Dec.{eqb}
 use lib.IntN.{pos}
+use lib.Ieee as Ieee
 use lib.Ieee.{Float, nan, inf, fin, lt, isNan, binary32, ofBits, ofInt, toUnsigned}
 
 -- 0.0 and 1.0, as the compiler writes the literals
@@ -41,6 +42,14 @@ fromU32 n = ofInt binary32 (pos n)
 -- `x as u32`: cut toward zero, 0 for a NaN and below 0, 4,294,967,295 above the range
 abbrev pub toU32 : Float → ℕ
 toU32 x = toUnsigned 32 x
+
+-- `f32::from_bits`: every NaN pattern is the NaN
+abbrev pub fromBits : ℕ → Float
+fromBits n = ofBits binary32 n
+
+-- `f32::to_bits`: "NaN as 7fc00000"
+abbrev pub toBits : Float → ℕ
+toBits x = Ieee.toBits binary32 x
 
 -- no NaN, and not below zero: -0.0 and an infinity are in
 abbrev pub nonnegF : Float → Bool

@@ -3,7 +3,7 @@ ghost use mathlib.Core.Path.{_≡_};
 ghost use Prim.Native.Nat.{_*_, _^_, _<_, _≤_};
 ghost use lib.Ieee as Ieee;
 ghost use lib.Ieee.Nearest.{closest};
-ghost use Rattle.float32.specs.Helpers.{maxF, minF, clampF, finiteF, infinityF, fromU32, toU32};
+ghost use Rattle.float32.specs.Helpers.{maxF, minF, clampF, finiteF, infinityF, fromU32, toU32, fromBits, toBits};
 
 // `a.max(b)`: a NaN operand gives the other one, equal operands the first.
 pub fn max(a: f32, b: f32) -> f32
@@ -125,4 +125,24 @@ pub fn infinity() -> f32
     ensures { λ r. ⌜ r ≡ infinityF ⌝ }
 {
     1.0 / 0.0
+}
+
+// `f32::from_bits`; every NaN pattern gives the NaN, where the language leaves it open.
+pub fn from_bits(bits: u32) -> f32
+    ensures { λ r. ⌜ r ≡ fromBits bits ⌝ }
+{
+    if bits % 0x8000_0000 > 0x7f80_0000 {
+        return 0.0 / 0.0;
+    }
+    f32::from_bits(bits)
+}
+
+// `f32::to_bits`; 7fc00000 for every NaN, where the language leaves it open.
+pub fn to_bits(x: f32) -> u32
+    ensures { λ r. ⌜ r ≡ toBits x ⌝ }
+{
+    if x != x {
+        return 0x7fc0_0000;
+    }
+    f32::to_bits(x)
 }

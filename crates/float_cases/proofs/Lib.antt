@@ -1,3 +1,2 @@
 -- Laws that the functions' proofs cite.
-pub mod Nan
 pub mod Rest

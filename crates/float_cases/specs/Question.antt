@@ -4,22 +4,14 @@ use mathlib.Core.Bool.{Bool, cond}
 use mathlib.Core.List.{List, [], _∷_}
 use lib.Dec.{ltb}
 use lib.ListN.{getD}
-use lib.Ieee.{Float, binary32, ofBits, toBits, eq, isNan}
-use Rattle.float32.specs.Helpers.{zeroF, maxF, minF, clampF, finiteF, fromU32, toU32, infinityF}
+use lib.Ieee.{Float, eq, isNan}
+use Rattle.float32.specs.Helpers.{zeroF, maxF, minF, clampF, finiteF, fromU32, toU32, infinityF, fromBits, toBits}
 use Rattle.tween.specs.StaggerPattern.{delayOf}
 use Rattle.tween.specs.declared.stagger_pattern.GridOrigin.{GridOrigin}
 use Rattle.tween.specs.declared.stagger_pattern.GridOrigin.the-variants.{TopLeft, TopRight, BottomLeft, BottomRight, Center, Top, Bottom, Left, Right}
 use Rattle.tween.specs.declared.stagger_pattern.StaggerPattern.{StaggerPattern}
 use Rattle.tween.specs.declared.stagger_pattern.StaggerPattern.the-variants.{Grid, Random, CenterOut, EdgesIn}
 use Rattle.float_cases.specs.declared.question.Answer.{Answer}
-
--- the float that bits stand for: every NaN pattern is the NaN
-abbrev pub float : ℕ → Float
-float n = ofBits binary32 n
-
--- the bits of a float, 7fc00000 for the NaN
-abbrev pub shown : Float → ℕ
-shown x = toBits binary32 x
 
 -- ---- answers
 
@@ -33,7 +25,7 @@ abbrev pub truth : Bool → Answer
 truth b = cond b (number 1) (number 0)
 
 abbrev pub exact : Float → Answer
-exact x = number (shown x)
+exact x = number (toBits x)
 
 -- "zeros of either sign agree"
 abbrev pub zeroless : Float → Answer
@@ -55,18 +47,18 @@ gridded cols rows origin step index = cond (ltb 8 origin) unknown (delayed (Grid
 -- the answers to all questions on the same operands, in the order of the questions' numbers
 abbrev pub answers : ℕ → ℕ → ℕ → ℕ → ℕ → List Answer
 answers a b c d e =
-    zeroless (maxF (float a) (float b))
-    ∷ zeroless (minF (float a) (float b))
-    ∷ exact (clampF (float a) (float b) (float c))
-    ∷ truth (isNan (float a))
-    ∷ truth (finiteF (float a))
+    zeroless (maxF (fromBits a) (fromBits b))
+    ∷ zeroless (minF (fromBits a) (fromBits b))
+    ∷ exact (clampF (fromBits a) (fromBits b) (fromBits c))
+    ∷ truth (isNan (fromBits a))
+    ∷ truth (finiteF (fromBits a))
     ∷ exact (fromU32 a)
-    ∷ number (toU32 (float a))
+    ∷ number (toU32 (fromBits a))
     ∷ exact infinityF
-    ∷ gridded a b c (float d) e
-    ∷ delayed (Random a (float b) (float c)) d
-    ∷ delayed (CenterOut a (float b)) c
-    ∷ delayed (EdgesIn a (float b)) c
+    ∷ gridded a b c (fromBits d) e
+    ∷ delayed (Random a (fromBits b) (fromBits c)) d
+    ∷ delayed (CenterOut a (fromBits b)) c
+    ∷ delayed (EdgesIn a (fromBits b)) c
     ∷ []
 
 -- the answer to question `op`

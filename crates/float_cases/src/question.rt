@@ -1,6 +1,6 @@
 // What can be asked, by its number, and what is answered.
 ghost use mathlib.Core.Path.{_≡_};
-ghost use Rattle.float_cases.specs.Question.{answerOf, unknown, number, truth, shown, exact, zeroless, delayed, originOf, gridded, float};
+ghost use Rattle.float_cases.specs.Question.{answerOf, unknown, number, truth, exact, zeroless, delayed, originOf, gridded};
 use tween::GridOrigin;
 use tween::StaggerPattern;
 
@@ -17,9 +17,9 @@ const UNKNOWN: u8 = 255;
 pub fn ask(op: u8, a: u32, b: u32, c: u32, d: u32, e: u32) -> Answer
     ensures { λ r. ⌜ r ≡ answerOf op a b c d e ⌝ }
 {
-    let x = float(a);
-    let y = float(b);
-    let z = float(c);
+    let x = float32::from_bits(a);
+    let y = float32::from_bits(b);
+    let z = float32::from_bits(c);
     match op {
         0 => zeroless(float32::max(x, y)),
         1 => zeroless(float32::min(x, y)),
@@ -29,7 +29,7 @@ pub fn ask(op: u8, a: u32, b: u32, c: u32, d: u32, e: u32) -> Answer
         5 => exact(float32::from_u32(a)),
         6 => number(float32::to_u32(x)),
         7 => exact(float32::infinity()),
-        8 => gridded(a, b, c, float(d), e),
+        8 => gridded(a, b, c, float32::from_bits(d), e),
         9 => delayed(
             StaggerPattern::Random {
                 seed: a,
@@ -72,7 +72,7 @@ fn truth(b: bool) -> Answer
 fn exact(x: f32) -> Answer
     ensures { λ r. ⌜ r ≡ exact x ⌝ }
 {
-    number(shown(x))
+    number(float32::to_bits(x))
 }
 
 // The same, with 0 for either zero, where the Rust leaves the sign open.
@@ -127,24 +127,4 @@ fn origin_of(n: u32) -> GridOrigin
         7 => GridOrigin::Left,
         _ => GridOrigin::Right,
     }
-}
-
-// The float that bits stand for. `f32::from_bits` leaves a NaN's open.
-fn float(bits: u32) -> f32
-    ensures { λ r. ⌜ r ≡ float bits ⌝ }
-{
-    if bits % 0x8000_0000 > 0x7f80_0000 {
-        return 0.0 / 0.0;
-    }
-    f32::from_bits(bits)
-}
-
-// The bits of a float, 7fc00000 for every NaN, since `f32::to_bits` leaves these open.
-fn shown(x: f32) -> u32
-    ensures { λ r. ⌜ r ≡ shown x ⌝ }
-{
-    if x != x {
-        return 0x7fc0_0000;
-    }
-    f32::to_bits(x)
 }

@@ -8,14 +8,14 @@ use Rattle.float_cases.proofs.Rest.{past-four}
 use Rattle.float_cases.proofs.question.ask.Statement.{statement}
 use Rattle.float_cases.proofs.question.ask.Tie as tie
 
-float-requires : tie.Need-float-requires
-float-requires c κs = search needs
+from-bits-requires : tie.Need-from-bits-requires
+from-bits-requires c κs = search needs
 
-float-requires-2 : tie.Need-float-requires-2
-float-requires-2 c κs = search needs
+from-bits-requires-2 : tie.Need-from-bits-requires-2
+from-bits-requires-2 c κs = search needs
 
-float-requires-3 : tie.Need-float-requires-3
-float-requires-3 c κs = search needs
+from-bits-requires-3 : tie.Need-from-bits-requires-3
+from-bits-requires-3 c κs = search needs
 
 max-requires : tie.Need-max-requires
 max-requires c κs = search needs
@@ -65,8 +65,8 @@ infinity-requires c κs = search needs
 exact-requires-3 : tie.Need-exact-requires-3
 exact-requires-3 c κs = search needs
 
-float-requires-4 : tie.Need-float-requires-4
-float-requires-4 c κs = search needs
+from-bits-requires-4 : tie.Need-from-bits-requires-4
+from-bits-requires-4 c κs = search needs
 
 gridded-requires : tie.Need-gridded-requires
 gridded-requires c κs = search needs
@@ -85,23 +85,23 @@ unknown-requires c κs = search needs
 
 returns : tie.Need-returns
 unfolding answerOf
-returns c = simp (c .before .before .match .keys1, c .zeroless .ensures, c .before .max .ensures, c .before .before .before .before .before .float .ensures, c .before .before .before .before .float2 .ensures)
+returns c = simp (c .before .before .match .keys1, c .zeroless .ensures, c .before .max .ensures, c .before .before .before .before .before .from-bits .ensures, c .before .before .before .before .from-bits2 .ensures)
 
 returns-2 : tie.Need-returns-2
 unfolding answerOf
-returns-2 c = simp (c .before .before .match .keys2, c .zeroless2 .ensures, c .before .min .ensures, c .before .before .before .before .before .float .ensures, c .before .before .before .before .float2 .ensures)
+returns-2 c = simp (c .before .before .match .keys2, c .zeroless2 .ensures, c .before .min .ensures, c .before .before .before .before .before .from-bits .ensures, c .before .before .before .before .from-bits2 .ensures)
 
 returns-3 : tie.Need-returns-3
 unfolding answerOf
-returns-3 c = simp (c .before .before .match .keys3, c .exact .ensures, c .before .clamp .ensures, c .before .before .before .before .before .float .ensures, c .before .before .before .before .float2 .ensures, c .before .before .before .float3 .ensures)
+returns-3 c = simp (c .before .before .match .keys3, c .exact .ensures, c .before .clamp .ensures, c .before .before .before .before .before .from-bits .ensures, c .before .before .before .before .from-bits2 .ensures, c .before .before .before .from-bits3 .ensures)
 
 returns-4 : tie.Need-returns-4
 unfolding answerOf
-returns-4 c = simp (c .before .before .match .keys4, c .truth .ensures, c .before .is-nan .ensures, c .before .before .before .before .before .float .ensures)
+returns-4 c = simp (c .before .before .match .keys4, c .truth .ensures, c .before .is-nan .ensures, c .before .before .before .before .before .from-bits .ensures)
 
 returns-5 : tie.Need-returns-5
 unfolding answerOf
-returns-5 c = simp (c .before .before .match .keys5, c .truth2 .ensures, c .before .is-finite .ensures, c .before .before .before .before .before .float .ensures)
+returns-5 c = simp (c .before .before .match .keys5, c .truth2 .ensures, c .before .is-finite .ensures, c .before .before .before .before .before .from-bits .ensures)
 
 returns-6 : tie.Need-returns-6
 unfolding answerOf
@@ -109,7 +109,7 @@ returns-6 c = simp (c .before .before .match .keys6, c .exact2 .ensures, c .befo
 
 returns-7 : tie.Need-returns-7
 unfolding answerOf
-returns-7 c = simp (c .before .before .match .keys7, c .number .ensures, c .before .to-u32 .ensures, c .before .before .before .before .before .float .ensures)
+returns-7 c = simp (c .before .before .match .keys7, c .number .ensures, c .before .to-u32 .ensures, c .before .before .before .before .before .from-bits .ensures)
 
 returns-8 : tie.Need-returns-8
 unfolding answerOf
@@ -117,19 +117,19 @@ returns-8 c = simp (c .before .before .match .keys8, c .exact3 .ensures, c .befo
 
 returns-9 : tie.Need-returns-9
 unfolding answerOf
-returns-9 c = simp (c .before .before .match .keys9, c .gridded .ensures, c .before .float4 .ensures)
+returns-9 c = simp (c .before .before .match .keys9, c .gridded .ensures, c .before .from-bits4 .ensures)
 
 returns-10 : tie.Need-returns-10
 unfolding answerOf
-returns-10 c = simp (c .before .match .keys10, c .delayed .ensures, c .before .before .before .float2 .ensures, c .before .before .float3 .ensures)
+returns-10 c = simp (c .before .match .keys10, c .delayed .ensures, c .before .before .before .from-bits2 .ensures, c .before .before .from-bits3 .ensures)
 
 returns-11 : tie.Need-returns-11
 unfolding answerOf
-returns-11 c = simp (c .before .match .keys11, c .delayed2 .ensures, c .before .before .before .float2 .ensures)
+returns-11 c = simp (c .before .match .keys11, c .delayed2 .ensures, c .before .before .before .from-bits2 .ensures)
 
 returns-12 : tie.Need-returns-12
 unfolding answerOf
-returns-12 c = simp (c .before .match .keys12, c .delayed3 .ensures, c .before .before .before .float2 .ensures)
+returns-12 c = simp (c .before .match .keys12, c .delayed3 .ensures, c .before .before .before .from-bits2 .ensures)
 
 returns-13 : tie.Need-returns-13
 unfolding answerOf
@@ -144,9 +144,9 @@ pub ask-spec : {M : Type 1} → statement M
 ask-spec =
     tie.close
     (tie.spec
-    float-requires
-    float-requires-2
-    float-requires-3
+    from-bits-requires
+    from-bits-requires-2
+    from-bits-requires-3
     max-requires
     zeroless-requires
     min-requires
@@ -163,7 +163,7 @@ ask-spec =
     number-requires
     infinity-requires
     exact-requires-3
-    float-requires-4
+    from-bits-requires-4
     gridded-requires
     delayed-requires
     delayed-requires-2

@@ -1,4 +1,4 @@
--- A NaN has one value and one shown pattern. Assumes nothing.
+-- A NaN has one value, and one pattern stands for it.
 use mathlib.Core.Path.{_≡_, refl, sym, ap, subst, _∙_}
 use mathlib.Core.Bool.{Bool, true, false, not}
 use Prim.Native.Nat.{ℕ, _%_, _<_, _≤_}
