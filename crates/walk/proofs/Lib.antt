@@ -1,0 +1,8 @@
+-- Laws of the walk's definitions that the functions' proofs cite.
+pub mod Cycle
+pub mod Cycles
+pub mod Empty
+pub mod Below
+pub mod Ends
+pub mod Answers
+pub mod Cases

@@ -1,0 +1,10 @@
+-- `claimed` states the claims, which `Cases.antt` proves.
+use Rattle.walk.proofs.Cases.{claims}
+use Rattle.walk.proofs.claimed.Statement.{statement}
+use Rattle.walk.proofs.claimed.Tie as tie
+
+returns : tie.Need-returns
+returns c = claims
+
+pub claimed-spec : {M : Type 1} → statement M
+claimed-spec = tie.close (tie.spec returns)

@@ -1,0 +1,88 @@
+-- `count_from` counts cycle by cycle: those counted and those of the cycles still to come are all of them.
+use mathlib.Core.Path.{_≡_, refl, ap}
+use Prim.Native.Nat.{_+_, _≤_, _^_}
+use native.Mathlib.Omega.{arith}
+use lib.ListN.{length, length-append}
+use borrow.Author.Needs.{needs}
+use borrow.Author.Tests.{not-true, not-false, le-leb, lt-leb}
+use Rattle.walk.specs.Completions.{lastCycle, cycles, cyclesFrom}
+use Rattle.walk.proofs.Cycles.{cycles-stop, turn, left, left-less}
+use Rattle.walk.proofs.count_from.Statement.{statement}
+use Rattle.walk.proofs.count_from.Tie as tie
+
+abbrev Inv-loop : tie.InvT-loop
+Inv-loop ends w first room n₀ cycle₀ stop₀ n cycle stop =
+    (n ≤ room) × (n + length (cycles w ends (2 ^ 32) stop cycle) ≡ length (cyclesFrom w ends first)) × (cycle ≤ lastCycle)
+
+abbrev μ-loop : tie.MeasureT-loop
+μ-loop ends w first room n₀ cycle₀ stop₀ n cycle stop = left stop cycle
+
+breaks-at-requires : tie.Need-breaks-at-requires Inv-loop μ-loop
+breaks-at-requires c κs = search needs
+
+loop-holds : tie.Need-loop-holds Inv-loop μ-loop
+loop-holds c = (search needs, rw (c .breaks-at .ensures) (omega arith), search needs)
+
+cycle-start-requires : tie.Need-cycle-start-requires Inv-loop μ-loop
+cycle-start-requires c κs = search needs
+
+count-cycle-requires : tie.Need-count-cycle-requires Inv-loop μ-loop
+count-cycle-requires c κs = search needs
+
+sub-if1 : tie.Need-sub-if1 Inv-loop μ-loop
+sub-if1 c = search needs
+
+returns : tie.Need-returns Inv-loop μ-loop
+returns c =
+    let a = c .before .before .before .before .before .before .before .args in
+    let l = c .before .before .before .before .loop in
+    let e = turn (a .w) (a .ends .now) (l .cycle) (not-true (l .stop) (c .before .before .before .loop-test .taken)) (c .before .before .cycle-start .ensures) refl refl in
+    simp (lt-leb (length (cyclesFrom (a .w) (a .ends .now) (a .first))) (a .room) (omega (arith, simp length-append at (ap length e))))
+
+add-n : tie.Need-add-n Inv-loop μ-loop
+add-n c = search needs
+
+next-cycle-requires : tie.Need-next-cycle-requires Inv-loop μ-loop
+next-cycle-requires c κs = search needs
+
+stops-at-requires : tie.Need-stops-at-requires Inv-loop μ-loop
+stops-at-requires c κs = search needs
+
+loop-less : tie.Need-loop-less Inv-loop μ-loop
+loop-less c =
+    let a = c .before .before .before .before .before .before .before .before .before .args in
+    let l = c .before .before .before .before .before .before .loop in
+    left-less (a .w) (l .cycle) (l .inv .2) (not-true (l .stop) (c .before .before .before .before .before .loop-test .taken)) (c .before .next-cycle .ensures) (c .stops-at .ensures)
+
+loop-again : tie.Need-loop-again Inv-loop μ-loop
+loop-again c =
+    let a = c .before .before .before .before .before .before .before .before .before .args in
+    let l = c .before .before .before .before .before .before .loop in
+    let e = turn (a .w) (a .ends .now) (l .cycle) (not-true (l .stop) (c .before .before .before .before .before .loop-test .taken)) (c .before .before .before .before .cycle-start .ensures) (c .before .next-cycle .ensures) (c .stops-at .ensures) in
+    (omega arith, omega (arith, simp length-append at (ap length e)), rw (c .before .next-cycle .ensures) (omega arith))
+
+returns-2 : tie.Need-returns-2 Inv-loop μ-loop
+returns-2 c =
+    let a = c .before .before .before .before .args in
+    let l = c .before .loop in
+    let e : l .n ≡ length (cyclesFrom (a .w) (a .ends .now) (a .first)) = omega (arith, ap length (cycles-stop (a .w) (a .ends .now) (2 ^ 32) (l .cycle)), rw (not-false (l .stop) (c .loop-test .left)) at (l .inv .1)) in
+    rw (← e, le-leb (l .n) (a .room) (l .inv .0))
+
+pub count-from-spec : {M : Type 1} → statement M
+count-from-spec =
+    tie.close
+    (tie.spec
+    Inv-loop
+    μ-loop
+    breaks-at-requires
+    loop-holds
+    cycle-start-requires
+    count-cycle-requires
+    sub-if1
+    returns
+    add-n
+    next-cycle-requires
+    stops-at-requires
+    loop-less
+    loop-again
+    returns-2)
