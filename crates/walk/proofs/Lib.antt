@@ -1,8 +1,9 @@
 -- Laws of the walk's definitions that the functions' proofs cite.
+pub mod Cases
 pub mod Cycle
 pub mod Cycles
 pub mod Empty
-pub mod Below
+pub mod Numbers
 pub mod Ends
 pub mod Answers
-pub mod Cases
+pub mod Claims

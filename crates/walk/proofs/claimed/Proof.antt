@@ -1,5 +1,5 @@
--- `claimed` states the claims, which `Cases.antt` proves.
-use Rattle.walk.proofs.Cases.{claims}
+-- `claimed` states the claims, which `Claims.antt` proves.
+use Rattle.walk.proofs.Claims.{claims}
 use Rattle.walk.proofs.claimed.Statement.{statement}
 use Rattle.walk.proofs.claimed.Tie as tie
 

@@ -43,16 +43,16 @@ limited-requires-3 : tie.Need-limited-requires-3
 limited-requires-3 c κs = search needs
 
 returns : tie.Need-returns
-returns c = cc
+returns c = simp (c .before .enum-told .given .1) (c .limited .ensures)
 
 returns-2 : tie.Need-returns-2
 returns-2 c = simp (c .before .before .before .mode .given .1, ← c .before .passes .ensures) (c .limited2 .ensures)
 
 returns-3 : tie.Need-returns-3
-returns-3 c = cc
+returns-3 c = simp (c .before .enum-told2 .given .1) (c .endless .ensures)
 
 returns-4 : tie.Need-returns-4
-returns-4 c = cc
+returns-4 c = simp (c .before .enum-told3 .given .1) (c .endless2 .ensures)
 
 returns-5 : tie.Need-returns-5
 returns-5 c = simp (c .before .before .before .mode2 .given .1, ← c .before .passes2 .ensures) (c .limited3 .ensures)
