@@ -240,19 +240,17 @@ fn live(count: usize) -> usize
     }
 }
 
-// The ends of the first count entries.
-fn ends_of(entries: [Entry; MAX_ENTRIES], count: usize) -> [f32; MAX_ENTRIES]
-    requires { ⌜ count ≤ maxEntries ⌝ }
-    ensures { λ r. ⌜ take count r ≡ map endAt (take count entries) ⌝ }
+// Writes the ends of the first count entries. They go into a lent slice, since an array that is returned is copied.
+fn write_ends(entries: [Entry; MAX_ENTRIES], count: usize, ends: &mut [f32])
+    requires { ⌜ (count ≤ maxEntries) × (count ≤ length (now ends)) ⌝ }
+    ensures { λ r. ⌜ take count (now (ends .exit)) ≡ map endAt (take count entries) ⌝ }
 {
-    let mut ends = [0.0f32; MAX_ENTRIES];
     let mut i: usize = 0;
     while i < count {
         let e = entries[i];
         ends[i] = steps::end_at(e);
         i += 1;
     }
-    ends
 }
 
 // The larger of the two: `acc.max(end)`, where acc is no NaN.
@@ -289,7 +287,8 @@ pub fn completions(
 {
     if prev < next {
         let n = live(count);
-        let all = ends_of(entries, n);
+        let mut all = [0.0f32; MAX_ENTRIES];
+        write_ends(entries, n, &mut all);
         let ends = &all[..n];
         let base = base_of(ends);
         return list_in(ends, base, mode, prev, next, list);
