@@ -4,6 +4,7 @@ pub mod Cycle
 pub mod Cycles
 pub mod Empty
 pub mod Numbers
+pub mod Largest
 pub mod Ends
 pub mod Answers
 pub mod Claims

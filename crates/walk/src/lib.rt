@@ -4,13 +4,13 @@ use steps::Entry;
 use steps::MAX_ENTRIES;
 use tween::Loop;
 ghost use mathlib.Core.Path.{_≡_};
-ghost use mathlib.Core.Bool.{true, cond};
-ghost use mathlib.Core.List.{foldl, map};
+ghost use mathlib.Core.Bool.{true, false, cond};
+ghost use mathlib.Core.List.{[], _∷_, foldl, map};
 ghost use Prim.Native.Nat.{_+_, _≤_, min};
-ghost use lib.ListN.{length, take};
+ghost use lib.ListN.{length, take, drop};
 ghost use lib.Seq.{sets};
 ghost use lib.Dec.{leb};
-ghost use lib.Ieee.{lt};
+ghost use lib.Ieee.{isNan, lt};
 ghost use Rattle.float32.specs.Helpers.{zeroF, maxF};
 ghost use Rattle.steps.specs.Times.{maxEntries, endAt};
 ghost use Rattle.walk.specs.Completions.{cycleStart, completes, inCycle, nextCycle, breaksAt, stopsAt, cyclesFrom, limitedTo, endlessly, walkOf, firstCycle, completionsIn, completionsBetween};
@@ -260,17 +260,39 @@ fn later(acc: f32, end: f32) -> f32
     if acc < end { end } else { acc }
 }
 
-// The base of entries with these ends.
-fn base_of(ends: &[f32]) -> f32
-    ensures { λ r. ⌜ r ≡ foldl maxF zeroF (now (ends .entry)) ⌝ }
+// The largest of four ends, 0.0 where there is none above it.
+fn latest(a: f32, b: f32, c: f32, d: f32) -> f32
+    ensures { λ r. ⌜ r ≡ foldl maxF zeroF (a ∷ b ∷ c ∷ d ∷ []) ⌝ }
 {
-    let mut base: f32 = 0.0;
-    let mut i: usize = 0;
+    later(later(later(later(0.0, a), b), c), d)
+}
+
+// The base, from what is folded so far and the ends from the place first on.
+fn base_from(ends: &[f32], first: usize, folded: f32) -> f32
+    requires { ⌜ (first ≤ length (now ends)) × (isNan folded ≡ false) ⌝ }
+    ensures { λ r. ⌜ r ≡ foldl maxF folded (drop first (now (ends .entry))) ⌝ }
+{
+    let mut base = folded;
+    let mut i = first;
     while i < ends.len() {
         base = later(base, ends[i]);
         i += 1;
     }
     base
+}
+
+// The base of entries with these ends, by blocks of four: a block's fold need not wait for the one before.
+fn base_of(ends: &[f32]) -> f32
+    ensures { λ r. ⌜ r ≡ foldl maxF zeroF (now (ends .entry)) ⌝ }
+{
+    let mut base: f32 = 0.0;
+    let mut i: usize = 0;
+    while ends.len() - i >= 4 {
+        let block = latest(ends[i], ends[i + 1], ends[i + 2], ends[i + 3]);
+        base = later(base, block);
+        i += 4;
+    }
+    base_from(ends, i, base)
 }
 
 // The completions of the first count entries from prev to next, over the front of the list, where it has room for them all.

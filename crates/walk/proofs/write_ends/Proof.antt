@@ -5,7 +5,7 @@ use Prim.Native.Nat.{_-_, _≤_, _<_}
 use native.Mathlib.Omega.{arith}
 use lib.ListN.{length, take, length-set}
 use borrow.Author.Needs.{needs}
-use Rattle.steps.specs.Times.{endAt, maxEntries}
+use Rattle.steps.specs.Times.{endAt}
 use Rattle.walk.proofs.Ends.{ends-more}
 use Rattle.walk.proofs.write_ends.Statement.{statement}
 use Rattle.walk.proofs.write_ends.Tie as tie
