@@ -3,7 +3,8 @@ pub mod Cases
 pub mod Cycle
 pub mod Cycles
 pub mod Empty
-pub mod Below
+pub mod Numbers
+pub mod Largest
 pub mod Ends
 pub mod Answers
 pub mod Claims

@@ -4,13 +4,13 @@ use steps::Entry;
 use steps::MAX_ENTRIES;
 use tween::Loop;
 ghost use mathlib.Core.Path.{_≡_};
-ghost use mathlib.Core.Bool.{true, cond};
-ghost use mathlib.Core.List.{foldl, map};
+ghost use mathlib.Core.Bool.{true, false, cond};
+ghost use mathlib.Core.List.{[], _∷_, foldl, map};
 ghost use Prim.Native.Nat.{_+_, _≤_, min};
-ghost use lib.ListN.{length, take};
+ghost use lib.ListN.{length, take, drop};
 ghost use lib.Seq.{sets};
 ghost use lib.Dec.{leb};
-ghost use lib.Ieee.{lt};
+ghost use lib.Ieee.{isNan, lt};
 ghost use Rattle.float32.specs.Helpers.{zeroF, maxF};
 ghost use Rattle.steps.specs.Times.{maxEntries, endAt};
 ghost use Rattle.walk.specs.Completions.{cycleStart, completes, inCycle, nextCycle, breaksAt, stopsAt, cyclesFrom, limitedTo, endlessly, walkOf, firstCycle, completionsIn, completionsBetween};
@@ -240,19 +240,17 @@ fn live(count: usize) -> usize
     }
 }
 
-// The ends of the first count entries.
-fn ends_of(entries: [Entry; MAX_ENTRIES], count: usize) -> [f32; MAX_ENTRIES]
-    requires { ⌜ count ≤ maxEntries ⌝ }
-    ensures { λ r. ⌜ take count r ≡ map endAt (take count entries) ⌝ }
+// Writes the ends of the first count entries. They go into a lent slice, since an array that is returned is copied.
+fn write_ends(entries: [Entry; MAX_ENTRIES], count: usize, ends: &mut [f32])
+    requires { ⌜ (count ≤ maxEntries) × (count ≤ length (now ends)) ⌝ }
+    ensures { λ r. ⌜ take count (now (ends .exit)) ≡ map endAt (take count entries) ⌝ }
 {
-    let mut ends = [0.0f32; MAX_ENTRIES];
     let mut i: usize = 0;
     while i < count {
         let e = entries[i];
         ends[i] = steps::end_at(e);
         i += 1;
     }
-    ends
 }
 
 // The larger of the two: `acc.max(end)`, where acc is no NaN.
@@ -262,17 +260,39 @@ fn later(acc: f32, end: f32) -> f32
     if acc < end { end } else { acc }
 }
 
-// The base of entries with these ends.
-fn base_of(ends: &[f32]) -> f32
-    ensures { λ r. ⌜ r ≡ foldl maxF zeroF (now (ends .entry)) ⌝ }
+// The largest of four ends, 0.0 where there is none above it.
+fn latest(a: f32, b: f32, c: f32, d: f32) -> f32
+    ensures { λ r. ⌜ r ≡ foldl maxF zeroF (a ∷ b ∷ c ∷ d ∷ []) ⌝ }
 {
-    let mut base: f32 = 0.0;
-    let mut i: usize = 0;
+    later(later(later(later(0.0, a), b), c), d)
+}
+
+// The base, from what is folded so far and the ends from the place first on.
+fn base_from(ends: &[f32], first: usize, folded: f32) -> f32
+    requires { ⌜ (first ≤ length (now ends)) × (isNan folded ≡ false) ⌝ }
+    ensures { λ r. ⌜ r ≡ foldl maxF folded (drop first (now (ends .entry))) ⌝ }
+{
+    let mut base = folded;
+    let mut i = first;
     while i < ends.len() {
         base = later(base, ends[i]);
         i += 1;
     }
     base
+}
+
+// The base of entries with these ends, by blocks of four: a block's fold need not wait for the one before.
+fn base_of(ends: &[f32]) -> f32
+    ensures { λ r. ⌜ r ≡ foldl maxF zeroF (now (ends .entry)) ⌝ }
+{
+    let mut base: f32 = 0.0;
+    let mut i: usize = 0;
+    while ends.len() - i >= 4 {
+        let block = latest(ends[i], ends[i + 1], ends[i + 2], ends[i + 3]);
+        base = later(base, block);
+        i += 4;
+    }
+    base_from(ends, i, base)
 }
 
 // The completions of the first count entries from prev to next, over the front of the list, where it has room for them all.
@@ -289,7 +309,8 @@ pub fn completions(
 {
     if prev < next {
         let n = live(count);
-        let all = ends_of(entries, n);
+        let mut all = [0.0f32; MAX_ENTRIES];
+        write_ends(entries, n, &mut all);
         let ends = &all[..n];
         let base = base_of(ends);
         return list_in(ends, base, mode, prev, next, list);

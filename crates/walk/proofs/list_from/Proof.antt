@@ -19,7 +19,7 @@ write-from-requires : tie.Need-write-from-requires
 write-from-requires c κs =
     let start = c .before .before .before .before .before .before .before .before in
     let a = start .args in
-    (start .pre, room-counted (cyclesFrom (a .w) (a .ends .now) (a .first)) (a .list .now) _ (sym (c .before .before .before .counted .given .1) ∙ c .before .before .before .before .before .count-from .ensures))
+    (start .pre, room-counted (cyclesFrom (a .w) (a .ends .now) (a .first)) (a .list .now) _ (rw (c .before .before .before .counted .given .1) at (c .before .before .before .before .before .count-from .ensures)))
 
 enum-told : tie.Need-enum-told
 enum-told c = search needs
