@@ -1,0 +1,132 @@
+-- The claim about whole lists of calls, and what follows from it.
+use mathlib.Core.Path.{_≡_, refl, sym, ap, ap₂, _∙_, subst}
+use mathlib.Core.Bool.{Bool, true, false, _&&_, _||_, cond}
+use mathlib.Core.List.{List, map}
+use Prim.Native.Nat.{ℕ}
+use lib.Dec.{ltb}
+use lib.ListN.{length}
+use lib.Ieee.{Float, le, eq, isNan}
+use Rattle.float32.specs.Helpers.{zeroF, finiteF, nonnegF}
+use Rattle.float32.proofs.Order.{not-lt-of-le}
+use Rattle.float32.proofs.Nonneg.{nonneg-no-nan, zero-le-nonneg}
+use Rattle.steps.specs.declared.Entry.{Entry}
+use Rattle.steps.specs.declared.Row.{Row}
+use Rattle.steps.specs.declared.Stepped.{Stepped}
+use Rattle.steps.specs.Rows.{synced}
+use Rattle.track.specs.declared.clock.TimelineState.{TimelineState}
+use Rattle.track.specs.declared.clock.TimelineState.the-variants.{Idle, Playing, Paused, Completed}
+use Rattle.track.specs.declared.track.Track.{Track}
+use Rattle.track.specs.Clocks.{seekTo as comesTo, unended, seekState, sought}
+use Rattle.track.specs.Tracks.{live, trackBase, trackRun, rowsOf}
+use Rattle.track.specs.Calls.{Room, short, trackStep}
+use Rattle.timeline.specs.declared.timeline.Timeline.{Timeline}
+use Rattle.timeline.specs.Placements.{empty}
+use Rattle.timeline.specs.Calls.{Call, Out, onTrack, step, after}
+use Rattle.history.specs.Entries.{SameEntries, doneMarks}
+use Rattle.history.specs.Claim.{elapsedOf, stateOf, isAccepted, NewlyBuilt, ownBuild, Noted, goingOn, seekTo, Alike, Sought, Seeks, Claim}
+use Rattle.history.proofs.Runs.{base-nonneg, run-nonneg, seek-nonneg, seek-most}
+use Rattle.history.proofs.Spans.{synced-same, runs, locals, lengths, same-refl}
+use Rattle.history.proofs.Kept.{empty-kept}
+use Rattle.history.proofs.Built.{Builds, own-builds}
+use Rattle.history.proofs.Sending.{soughtClock, soughtAll, seek-room, seek-is}
+use Rattle.history.proofs.Synced.{marksAt, marks-at-same, localAt, Synced, sync-marks, run-sound}
+use Rattle.history.proofs.Noted.{noted-synced}
+
+-- ---- an accepted seek
+abbrev soughtOut : Timeline → Float → Out
+soughtOut t secs = onTrack t (soughtAll (t .track) secs)
+
+module _ (t : Timeline) (secs : Float) (room : Room) where
+  seek-taken : isAccepted t (seekTo secs room) ≡ true → short room (t .track) ≡ false
+  unfolding step trackStep
+  seek-taken a = seek-room (t .track) secs room a
+
+  seek-out : short room (t .track) ≡ false → step t (seekTo secs room) ≡ soughtOut t secs
+  unfolding step trackStep
+  seek-out h = ap (onTrack t) (seek-is (t .track) secs room h)
+
+short-same : (t u : Timeline) (room : Room) → SameEntries t u → short room (t .track) ≡ short room (u .track)
+short-same t u room s = ap (λ (n : ℕ). ltb (room .kinds) n || (ltb (room .amounts) n || ltb (room .places) n)) (lengths s)
+
+-- the local time that a seek comes to
+abbrev place : Track → Float → Float
+place k secs = localAt k (comesTo (trackRun k) secs)
+
+sought-marks : (t : Timeline) (secs : Float) → doneMarks (soughtOut t secs .timeline) ≡ marksAt (place (t .track) secs) (live (t .track))
+unfolding sought
+sought-marks t secs = sync-marks (t .track) (soughtClock (t .track) secs)
+
+-- ---- 1. as on every timeline of the same entries and mode
+module _ (t u : Timeline) (s : SameEntries t u) (secs : Float) where
+  elapsed-same : comesTo (trackRun (t .track)) secs ≡ comesTo (trackRun (u .track)) secs
+  elapsed-same = ap (λ (r : Float). comesTo r secs) (runs s)
+
+  place-same : place (t .track) secs ≡ place (u .track) secs
+  place-same = locals s (comesTo (trackRun (t .track)) secs) ∙ ap (localAt (u .track)) elapsed-same
+
+  marks-same : marksAt (place (t .track) secs) (live (t .track)) ≡ marksAt (place (u .track) secs) (live (u .track))
+  marks-same = marks-at-same (place (t .track) secs) (live (t .track)) (live (u .track)) (s .spans) ∙ ap (λ (x : Float). marksAt x (live (u .track))) place-same
+
+  rows-same : rowsOf (map (synced (place (t .track) secs)) (live (t .track))) ≡ rowsOf (map (synced (place (u .track) secs)) (live (u .track)))
+  rows-same = ap rowsOf (synced-same (live (t .track)) (live (u .track)) (s .spans) (place (t .track) secs) ∙ ap (λ (x : Float). map (synced x) (live (u .track))) place-same)
+
+  alike : Alike (soughtOut t secs) (soughtOut u secs)
+  alike =
+      record {
+        elapsed = unfold sought in elapsed-same;
+        marks = sought-marks t secs ∙ marks-same ∙ sym (sought-marks u secs);
+        rows = rows-same;
+      }
+
+-- ---- 3. the state
+le-is-eq : (x y : Float) → le y x ≡ true → le x y ≡ eq x y
+unfolding le
+le-is-eq x y h = rw (not-lt-of-le y x h)
+
+unended-is : (s : TimelineState) → unended s ≡ goingOn s
+unended-is Idle = refl
+unended-is Playing = refl
+unended-is Paused = refl
+unended-is Completed = refl
+
+state-is : (total elapsed : Float) (s : TimelineState) → le elapsed total ≡ true → seekState total elapsed s ≡ cond (finiteF total && eq total elapsed) Completed (goingOn s)
+unfolding seekState
+state-is total elapsed s h = rw (le-is-eq total elapsed h, unended-is s)
+
+-- ---- 4. noted places
+back : (t n : Timeline) → SameEntries t n → Noted n → doneMarks (soughtOut t (elapsedOf n) .timeline) ≡ doneMarks n
+back t n s m =
+    let y = noted-synced n m in
+    sought-marks t (elapsedOf n) ∙ marks-same t n s (elapsedOf n)
+    ∙ ap (λ (x : Float). marksAt (localAt (n .track) x) (live (n .track))) (y .stays (m .number)) ∙ sym (y .marks)
+
+back-elapsed : (t n : Timeline) → SameEntries t n → Noted n → comesTo (trackRun (t .track)) (elapsedOf n) ≡ elapsedOf n
+back-elapsed t n s m = elapsed-same t n s (elapsedOf n) ∙ noted-synced n m .stays (m .number)
+
+-- ---- the claim
+sought-is : (calls : List Call) (t : Timeline) (secs : Float) (room : Room) → Builds empty t (ownBuild empty calls) → short room (t .track) ≡ false → Sought calls t secs room (soughtOut t secs)
+sought-is calls t secs room own h =
+    record {
+      as-new = λ u new s.
+          let h′ : short room (u .track) ≡ false = sym (short-same t u room s) ∙ h in
+          (rw (seek-out u secs room h′), λ room′ a. rw (seek-out u secs room′ (seek-taken u secs room′ a)) (alike t u s secs));
+      own-builds = own .build;
+      own-same = own .same;
+      number = unfold sought in nonneg-no-nan (comesTo (trackRun (t .track)) secs) sound;
+      least = unfold sought in zero-le-nonneg (comesTo (trackRun (t .track)) secs) sound;
+      most = unfold sought in most;
+      state = unfold sought in state-is (trackRun (t .track)) (comesTo (trackRun (t .track)) secs) (stateOf t) most;
+      back = λ n m s e. (unfold sought in rw e (back-elapsed t n s m), rw e (back t n s m));
+    }
+  where
+    sound : nonnegF (comesTo (trackRun (t .track)) secs) ≡ true
+    sound = seek-nonneg (trackRun (t .track)) (run-sound (t .track)) secs
+
+    most : le (comesTo (trackRun (t .track)) secs) (trackRun (t .track)) ≡ true
+    most = seek-most (trackRun (t .track)) (run-sound (t .track)) secs
+
+pub claim : Claim
+claim calls secs room a =
+    let t = after empty calls in
+    let h = seek-taken t secs room a in
+    rw (seek-out t secs room h) (sought-is calls t secs room (own-builds empty empty calls empty-kept empty-kept same-refl) h)

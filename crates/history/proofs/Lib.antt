@@ -1,0 +1,12 @@
+pub mod Calls
+pub mod Runs
+pub mod Spans
+pub mod Marks
+pub mod Stays
+pub mod Added
+pub mod Kept
+pub mod Built
+pub mod Sending
+pub mod Synced
+pub mod Noted
+pub mod Claim
