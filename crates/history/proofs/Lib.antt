@@ -2,6 +2,8 @@ pub mod Calls
 pub mod Runs
 pub mod Spans
 pub mod Marks
+pub mod Clocks
+pub mod Advances
 pub mod Stays
 pub mod Added
 pub mod Kept
@@ -10,3 +12,5 @@ pub mod Sending
 pub mod Synced
 pub mod Noted
 pub mod Claim
+pub mod Covered
+pub mod Counterexamples

@@ -1,34 +1,27 @@
 -- A track whose marks are those of synchronising it at its elapsed time, and whose elapsed time a seek keeps: what noting calls leave.
-use mathlib.Core.Path.{_≡_, refl, sym, ap, ap₂, _∙_, subst}
-use mathlib.Core.Bool.{Bool, true, false, not, _&&_, cond, true≢false, false≢true}
+use mathlib.Core.Path.{_≡_, refl, sym, ap, _∙_}
+use mathlib.Core.Bool.{Bool, true, false}
 use mathlib.Core.List.{List, map, map-map}
-use Prim.Native.Nat.{ℕ}
 use lib.ListN.{length-map}
-use lib.Ieee.{Float, eq, le, isNan}
-use Rattle.float32.specs.Helpers.{zeroF, minF, finiteF, nonnegF}
+use lib.Ieee.{Float, isNan}
+use Rattle.float32.specs.Helpers.{minF, finiteF, nonnegF}
 use Rattle.float32.proofs.MaxMin.{min-le}
 use Rattle.float32.proofs.Nonneg.{nonneg-no-nan}
-use Rattle.tween.specs.declared.loop_mode.Loop.{Loop}
-use Rattle.tween.specs.declared.loop_mode.Loop.the-variants.{Once, Times, Forever, PingPong, PingPongTimes}
 use Rattle.steps.specs.declared.Entry.{Entry}
 use Rattle.steps.specs.declared.Stepped.{Stepped}
 use Rattle.steps.specs.Times.{runOf, localTime}
 use Rattle.steps.specs.Rows.{synced}
 use Rattle.track.specs.declared.clock.Clock.{Clock}
-use Rattle.track.specs.declared.clock.TimelineState.{TimelineState}
-use Rattle.track.specs.declared.clock.TimelineState.the-variants.{Idle, Playing, Paused, Completed}
 use Rattle.track.specs.declared.track.Track.{Track}
-use Rattle.track.specs.Clocks.{isPlaying, seekTo, sought}
+use Rattle.track.specs.Clocks.{seekTo, sought}
 use Rattle.track.specs.Tracks.{live, trackBase, trackRun, moved}
-use Rattle.track.specs.Updates.{syncedTo, advanced, resting, playing, nextElapsed, advancedClock}
-use Rattle.track.specs.Calls.{advancedTo, updatedIn}
+use Rattle.track.specs.Updates.{syncedTo, advancedClock}
+use Rattle.track.specs.Calls.{advancedTo}
 use Rattle.history.specs.Entries.{spanOf}
 use Rattle.history.specs.Invariant.{NotBelow}
-use Rattle.history.specs.Claim.{isOnce}
-use Rattle.history.proofs.Runs.{base-nonneg, run-nonneg, seek-nonneg, seek-most, seek-stays, endless-most, next-not-below, min-not-below}
+use Rattle.history.proofs.Runs.{base-nonneg, run-nonneg, seek-nonneg, seek-most, seek-stays, endless-most, min-not-below}
 use Rattle.history.proofs.Spans.{map-same, base-same}
 use Rattle.history.proofs.Marks.{moved-spans, moved-done}
-use Rattle.history.proofs.Stays.{SoundClock}
 use Rattle.history.proofs.Sending.{soughtClock, soughtAll}
 
 -- the marks that synchronising at the local time t sets
