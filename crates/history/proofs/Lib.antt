@@ -1,3 +1,4 @@
+-- Why the claim holds. What later crates cite: Covered (what readers and builders hand out) and Kept (the invariant).
 pub mod Calls
 pub mod Runs
 pub mod Spans

@@ -2,7 +2,7 @@
 use mathlib.Core.Path.{_≡_, refl, sym, ap, _∙_}
 use mathlib.Core.Bool.{Bool, true, false}
 use mathlib.Core.List.{List, map, map-map}
-use lib.ListN.{length-map}
+use lib.ListN.{length, length-map}
 use lib.Ieee.{Float, isNan}
 use Rattle.float32.specs.Helpers.{minF, finiteF, nonnegF}
 use Rattle.float32.proofs.MaxMin.{min-le}
@@ -36,18 +36,20 @@ marks-at-same t es fs s = map-same es fs s (λ (e : Entry). synced t e .done) (�
 abbrev pub localAt : Track → Float → Float
 localAt k elapsed = localTime (k .looping) (trackBase k) elapsed
 
+-- a seek to this elapsed time stays at it
+abbrev Keeps : Track → Float → Type 0
+Keeps k elapsed = isNan elapsed ≡ false → seekTo (trackRun k) elapsed ≡ elapsed
+
 pub record Synced (k : Track) : Type 0 where
   pub marks : map (λ (e : Entry). e .done) (live k) ≡ marksAt (localAt k (k .clock .elapsed)) (live k)
-  pub stays : isNan (k .clock .elapsed) ≡ false → seekTo (trackRun k) (k .clock .elapsed) ≡ k .clock .elapsed
+  pub stays : Keeps k (k .clock .elapsed)
 
-abbrev kept : Track → Float → Type 0
-kept k elapsed = isNan elapsed ≡ false → seekTo (trackRun k) elapsed ≡ elapsed
-
+-- ---- a track that is synchronised where the clock c stands
 module _ (k : Track) (c : Clock) where
   abbrev steps : List Stepped
   steps = map (synced (localAt k (c .elapsed))) (live k)
 
-  each : lib.ListN.length steps ≡ lib.ListN.length (live k)
+  each : length steps ≡ length (live k)
   each = length-map (live k) (synced (localAt k (c .elapsed)))
 
   -- the marks that it leaves
@@ -57,7 +59,7 @@ module _ (k : Track) (c : Clock) where
   sync-base : trackBase (moved k c steps) ≡ trackBase k
   sync-base = base-same (live (moved k c steps)) (live k) (moved-spans k c steps each)
 
-  sync-synced : kept k (c .elapsed) → Synced (moved k c steps)
+  sync-synced : Keeps k (c .elapsed) → Synced (moved k c steps)
   sync-synced h =
       record {
         marks =
@@ -66,23 +68,23 @@ module _ (k : Track) (c : Clock) where
         stays = λ p. ap (λ (b : Float). seekTo (runOf (k .looping) b) (c .elapsed)) sync-base ∙ h p;
       }
 
+-- ---- by a seek, and by an update in a mode other than Once
 module _ (k : Track) where
   pub run-sound : nonnegF (trackRun k) ≡ true
   run-sound = run-nonneg (k .looping) (trackBase k) (base-nonneg (live k))
 
-  -- a seek
   pub sought-synced : (secs : Float) → Synced (soughtAll k secs .track)
   unfolding sought
   sought-synced secs = sync-synced k (soughtClock k secs) (λ p. seek-stays (trackRun k) run-sound (seekTo (trackRun k) secs) (seek-nonneg (trackRun k) run-sound secs) (seek-most (trackRun k) run-sound secs))
 
-  -- an update in a mode other than Once, to a place that a seek keeps
-  pub advanced-synced : (prev next elapsed : Float) (ended : Bool) → kept k elapsed → Synced (advancedTo k (syncedTo (k .looping) (live k) (trackBase k) prev next elapsed ended) .track)
+  -- an update to a place that a seek keeps
+  pub advanced-synced : (prev next elapsed : Float) (ended : Bool) → Keeps k elapsed → Synced (advancedTo k (syncedTo (k .looping) (live k) (trackBase k) prev next elapsed ended) .track)
   unfolding advancedTo syncedTo advancedClock
   advanced-synced prev next elapsed ended h = sync-synced k (advancedClock (k .clock) elapsed ended) h
 
-  pub bounded-kept : (next : Float) → NotBelow next → kept k (minF next (trackRun k))
+  pub bounded-kept : (next : Float) → NotBelow next → Keeps k (minF next (trackRun k))
   bounded-kept next h p =
       seek-stays (trackRun k) run-sound (minF next (trackRun k)) (min-not-below next (trackRun k) h run-sound p) (min-le next (trackRun k) (nonneg-no-nan (trackRun k) run-sound))
 
-  pub endless-kept : (next : Float) → NotBelow next → finiteF (trackRun k) ≡ false → kept k next
+  pub endless-kept : (next : Float) → NotBelow next → finiteF (trackRun k) ≡ false → Keeps k next
   endless-kept next h e p = seek-stays (trackRun k) run-sound next (h p) (endless-most (trackRun k) run-sound next e p)

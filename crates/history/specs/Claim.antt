@@ -127,18 +127,18 @@ seekTo secs room = On (SeekAbs secs room)
 
 -- what the seek to secs gives, o, on the timeline t that the list of calls made
 pub record Sought (calls : List Call) (t : Timeline) (secs : Float) (room : Room) (o : Out) : Type 0 where
-  -- 1.
+  -- 1. as every newly built timeline; and the list's own building calls make one
   pub as-new : (u : Timeline) → NewlyBuilt u → SameEntries t u
       → (isAccepted u (seekTo secs room) ≡ true) × ((room′ : Room) → isAccepted u (seekTo secs room′) ≡ true → Alike o (step u (seekTo secs room′)))
   pub own-builds : AllBuild empty (ownBuild empty calls)
   pub own-same : SameEntries t (after empty (ownBuild empty calls))
-  -- 2.
+  -- 2. no NaN, at least 0, at most the run
   pub number : isNan (elapsedOf (o .timeline)) ≡ false
   pub least : le zeroF (elapsedOf (o .timeline)) ≡ true
   pub most : le (elapsedOf (o .timeline)) (trackRun (t .track)) ≡ true
-  -- 3.
+  -- 3. Completed exactly at the end of a finite run
   pub state : stateOf (o .timeline) ≡ cond (finiteF (trackRun (t .track)) && eq (trackRun (t .track)) (elapsedOf (o .timeline))) Completed (goingOn (stateOf t))
-  -- 4.
+  -- 4. noted places come back
   pub back : (n : Timeline) → Noted n → SameEntries t n → secs ≡ elapsedOf n → SamePlace (o .timeline) n
 
 -- what is claimed of the timeline t that the list made: every accepted seek gives that
