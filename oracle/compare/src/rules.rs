@@ -19,7 +19,8 @@ impl Case {
 }
 
 /// rules.txt: `=` and a name start a case, `#` a comment; after `:` are the script's bytes; every
-/// other line is one of the text, with `{x}` for the bits of the float x and `[n*t]` for n times t.
+/// other line is one of the text, with `{x}` for the bits of the float x and `[n*t]` for n times t,
+/// in which `%` is `item_` and the index, in hex.
 pub fn cases() -> Vec<Case> {
     let mut cases: Vec<Case> = Vec::new();
     for line in include_str!("rules.txt").lines() {
@@ -95,8 +96,13 @@ fn text_line(line: &str) -> String {
     let line = replaced(line, ['{', '}'], |x| format!("{:08x}", float(x).to_bits()));
     replaced(&line, ['[', ']'], |part| {
         let (times, text) = part.split_once('*').expect("a star");
-        text.repeat(number(times) as usize)
+        let item = |index| text.replace('%', &hex(&format!("item_{index}")));
+        (0..number(times)).map(item).collect()
     })
+}
+
+fn hex(text: &str) -> String {
+    text.bytes().map(|byte| format!("{byte:02x}")).collect()
 }
 
 /// The line with what stands between the two signs replaced.

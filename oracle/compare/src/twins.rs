@@ -377,3 +377,81 @@ fn in_group<T>(timeline: &mut Timeline, act: impl FnOnce(&mut AnimationGroup) ->
     *timeline = mem::take(group.timeline_mut());
     answer
 }
+
+#[cfg(test)]
+mod tests {
+    use super::*;
+    use crate::rng::Rng;
+
+    const ENDLESS: [Loop; 2] = [Loop::Forever, Loop::PingPong];
+
+    /// Twins at `elapsed` with such entries, playing.
+    fn playing(entries: &[(f32, f32)], mode: &Loop, elapsed: f32) -> Twins {
+        let mut twins = Twins::new();
+        for &(start, duration) in entries {
+            twins.add(b"a", At::Absolute(start), duration);
+        }
+        twins.play();
+        twins.synchronise_at(elapsed);
+        twins.looping(mode.clone());
+        twins.clear();
+        twins
+    }
+
+    /// What an update leaves and sends; NaN as text, since it is not equal to itself.
+    fn seen(twins: &mut Twins) -> String {
+        let (elapsed, progress, marks) = (twins.elapsed(), twins.progress(), twins.marks());
+        let (rows, completed) = (twins.rows(), twins.completed());
+        format!("{elapsed} {progress} {marks:?} {rows:?} {completed:?}")
+    }
+
+    /// The stand-in for an update that walks far sends what an update sends.
+    #[test]
+    fn synchronising_sends_what_an_update_sends() {
+        let mut rng = Rng::new(5);
+        let mut quarters = |n| rng.below(n) as f32 * 0.25;
+        let times = |n| [Loop::Times(n), Loop::PingPongTimes(n)];
+        for mode in [times(1), times(2), times(3), times(9), ENDLESS].concat() {
+            for _ in 0..500 {
+                let entries = [(); 3].map(|_| (quarters(8), quarters(6)));
+                let (elapsed, dt) = (quarters(40), quarters(40));
+                let mut updated = playing(&entries, &mode, elapsed);
+                if updated.base() > 0.0 {
+                    let mut synchronised = playing(&entries, &mode, elapsed);
+                    let next = updated.next_elapsed(dt).min(updated.run());
+                    updated.update(dt);
+                    synchronised.synchronise_at(next);
+                    assert_eq!(updated.rows(), synchronised.rows());
+                    assert_eq!(updated.marks().0, synchronised.marks().0);
+                    assert_eq!(updated.elapsed(), synchronised.elapsed());
+                }
+            }
+        }
+    }
+
+    /// The rule on NaN against the Rust itself, which walks all its cycles.
+    #[test]
+    #[ignore = "takes minutes"]
+    fn the_rust_lists_nothing_at_a_nan() {
+        let finite = [(0.0, 0.0), (0.5, 1.0)];
+        let infinite = [(0.0, 0.0), (0.5, f32::INFINITY)];
+        for entries in [finite, infinite] {
+            for mode in [
+                ENDLESS,
+                [Loop::Times(u32::MAX), Loop::PingPongTimes(u32::MAX)],
+            ]
+            .concat()
+            {
+                let mut walked = playing(&entries, &mode, 0.75);
+                let mut answered = playing(&entries, &mode, 0.75);
+                for twins in [&mut walked, &mut answered] {
+                    twins.set_time_scale(0.0);
+                }
+                assert!(walked.update_both(f32::INFINITY));
+                assert!(answered.update(f32::INFINITY));
+                assert_eq!(seen(&mut walked), seen(&mut answered));
+                assert!(walked.completed().is_empty());
+            }
+        }
+    }
+}
