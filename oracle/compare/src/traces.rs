@@ -223,7 +223,7 @@ fn simplified(script: &Script) -> Vec<Script> {
     let mut tried = Vec::new();
     for (index, call) in script.calls.iter().enumerate() {
         for simpler in simpler(call) {
-            if simpler != *call {
+            if simpler.bytes() != call.bytes() {
                 let mut calls = script.calls.clone();
                 calls[index] = simpler;
                 tried.push(Script {
