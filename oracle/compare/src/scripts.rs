@@ -288,7 +288,7 @@ impl Maker<'_> {
             1 => Call::GroupParallel(durations(self)),
             2 => Call::GroupSequence(durations(self)),
             3 => Call::GroupStagger(self.pattern(), durations(self)),
-            _ => Call::Sequence((0..count).map(|_| self.item()).collect()),
+            _ => Call::Sequence((0..count * 3 / 2).map(|_| self.item()).collect()),
         }
     }
 
