@@ -11,14 +11,14 @@ const MOST_LISTED: u16 = 1000;
 const MOST_ITEMS: u16 = 300;
 
 /// How many places are lent of kinds, amounts and places.
-#[derive(Clone, Copy, PartialEq, Debug)]
+#[derive(Clone, Copy, Debug)]
 pub struct Lent {
     pub kinds: u16,
     pub amounts: u16,
     pub places: u16,
 }
 
-#[derive(Clone, PartialEq, Debug)]
+#[derive(Clone, Debug)]
 pub struct Update {
     pub dt: f32,
     pub lent: Lent,
@@ -35,7 +35,7 @@ pub enum Place {
     Offset(f32),
 }
 
-#[derive(Clone, PartialEq, Debug)]
+#[derive(Clone, Debug)]
 pub struct Add {
     pub label: Vec<u8>,
     pub at: Place,
@@ -43,13 +43,13 @@ pub struct Add {
 }
 
 /// A loop mode by its number in the order of `Loop`, and the number that some modes carry.
-#[derive(Clone, Copy, PartialEq, Debug)]
+#[derive(Clone, Copy, Debug)]
 pub struct Mode {
     pub kind: u8,
     pub number: u32,
 }
 
-#[derive(Clone, Copy, PartialEq, Debug)]
+#[derive(Clone, Copy, Debug)]
 pub enum Pattern {
     Grid {
         cols: u32,
@@ -72,14 +72,14 @@ pub enum Pattern {
     },
 }
 
-#[derive(Clone, PartialEq, Debug)]
+#[derive(Clone, Debug)]
 pub enum Item {
     Then(Vec<u8>, f32),
     ThenFor(Vec<u8>, f32, f32),
     Gap(f32),
 }
 
-#[derive(Clone, PartialEq, Debug)]
+#[derive(Clone, Debug)]
 pub enum Call {
     Play(Lent),
     Pause,
@@ -488,7 +488,13 @@ impl Call {
         }
     }
 
-    pub fn write(&self, out: &mut Vec<u8>) {
+    pub fn bytes(&self) -> Vec<u8> {
+        let mut bytes = Vec::new();
+        self.write(&mut bytes);
+        bytes
+    }
+
+    fn write(&self, out: &mut Vec<u8>) {
         let mut out = Writer(out);
         out.u8(self.byte());
         match self {

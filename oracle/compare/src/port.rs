@@ -18,7 +18,7 @@ impl Port {
     pub fn run(&self, name: &str, input: &[u8]) -> Result<Vec<u8>, String> {
         let fail = |what: &str, e: std::io::Error| format!("{name}: {what}: {e}");
         let folder = root().join("target/oracle/input");
-        let file = folder.join(name);
+        let file = folder.join(format!("{name}.{}", std::process::id()));
         fs::create_dir_all(&folder).map_err(|e| fail("its input's folder", e))?;
         fs::write(&file, input).map_err(|e| fail("its input", e))?;
         let output = self
@@ -27,6 +27,7 @@ impl Port {
             .stderr(Stdio::inherit())
             .output()
             .map_err(|e| fail("it cannot be run", e))?;
+        fs::remove_file(&file).map_err(|e| fail("its input", e))?;
         if !output.status.success() {
             return Err(format!("{name}: the program ended with {}", output.status));
         }

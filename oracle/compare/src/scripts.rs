@@ -47,7 +47,7 @@ impl Kinds {
 }
 
 /// Calls, and bytes after them that are no whole call.
-#[derive(Clone, PartialEq)]
+#[derive(Clone)]
 pub struct Script {
     pub calls: Vec<Call>,
     pub tail: Vec<u8>,
@@ -55,10 +55,8 @@ pub struct Script {
 
 impl Script {
     pub fn bytes(&self) -> Vec<u8> {
-        let mut bytes = Vec::new();
-        self.calls.iter().for_each(|call| call.write(&mut bytes));
-        bytes.extend(&self.tail);
-        bytes
+        let calls = self.calls.iter().flat_map(Call::bytes);
+        calls.chain(self.tail.iter().copied()).collect()
     }
 }
 
@@ -235,11 +233,8 @@ impl Maker<'_> {
                 .filter(|&byte| byte >= 21 || self.kinds.has(byte.into()))
                 .collect(),
             2 | 3 => {
-                let mut bytes = Vec::new();
-                if let Some(call) = self.calls.last() {
-                    call.write(&mut bytes);
-                    bytes.pop();
-                }
+                let mut bytes = self.calls.last().map_or(Vec::new(), Call::bytes);
+                bytes.pop();
                 bytes
             }
             _ => Vec::new(),
@@ -293,7 +288,7 @@ impl Maker<'_> {
             1 => Call::GroupParallel(durations(self)),
             2 => Call::GroupSequence(durations(self)),
             3 => Call::GroupStagger(self.pattern(), durations(self)),
-            _ => Call::Sequence((0..count).map(|_| self.item()).collect()),
+            _ => Call::Sequence((0..count * 3 / 2).map(|_| self.item()).collect()),
         }
     }
 

@@ -223,7 +223,7 @@ fn simplified(script: &Script) -> Vec<Script> {
     let mut tried = Vec::new();
     for (index, call) in script.calls.iter().enumerate() {
         for simpler in simpler(call) {
-            if simpler != *call {
+            if simpler.bytes() != call.bytes() {
                 let mut calls = script.calls.clone();
                 calls[index] = simpler;
                 tried.push(Script {
@@ -236,8 +236,8 @@ fn simplified(script: &Script) -> Vec<Script> {
     tried
 }
 
-/// The call with one operand replaced by a plain one. Each step is towards a plain operand, so a
-/// script can be made simpler only so often.
+/// The call with one operand replaced by a plainer one: shorter slices, list and labels, an item
+/// less, 0 or 1 for another float. So a script can be made simpler only so often.
 fn simpler(call: &Call) -> Vec<Call> {
     let mut tried = Vec::new();
     let mut each = |change: &dyn Fn(&mut Call)| {
@@ -245,7 +245,22 @@ fn simpler(call: &Call) -> Vec<Call> {
         change(&mut other);
         tried.push(other);
     };
-    each(&|call| lent_of(call).into_iter().for_each(|lent| *lent = PLAIN));
+    for length in 0..longest(call).min(64) {
+        each(&|call| {
+            lent_of(call)
+                .into_iter()
+                .for_each(|lent| *lent = equal(length))
+        });
+    }
+    if let Call::Update(update) = call {
+        for length in 0..update.list.min(64) {
+            each(&|call| {
+                if let Call::Update(update) = call {
+                    update.list = length;
+                }
+            });
+        }
+    }
     each(&|call| {
         labels_of(call)
             .into_iter()
@@ -275,11 +290,20 @@ fn simpler(call: &Call) -> Vec<Call> {
     tried
 }
 
-const PLAIN: Lent = Lent {
-    kinds: 64,
-    amounts: 64,
-    places: 64,
-};
+/// Three slices of equal length.
+fn equal(length: u16) -> Lent {
+    Lent {
+        kinds: length,
+        amounts: length,
+        places: length,
+    }
+}
+
+/// The longest of the slices that a call is lent.
+fn longest(call: &Call) -> u16 {
+    let lent = lent_of(&mut call.clone()).copied();
+    lent.map_or(0, |lent| lent.kinds.max(lent.amounts).max(lent.places))
+}
 
 fn lent_of(call: &mut Call) -> Option<&mut Lent> {
     match call {
