@@ -1,2 +1,7 @@
+-- Laws of the track's definitions that the functions' proofs cite.
 pub mod Written
 pub mod Sending
+pub mod Ticks
+pub mod Replies
+pub mod Updating
+pub mod Checks

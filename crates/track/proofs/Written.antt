@@ -12,7 +12,7 @@ use Rattle.steps.specs.Rows.{row, stepped}
 use Rattle.steps.specs.declared.Entry.{Entry}
 use Rattle.steps.specs.declared.Row.{Row}
 use Rattle.steps.specs.declared.Stepped.{Stepped}
-use Rattle.steps.proofs.Lists.{front, front-more, front-length, front-at, front-all, part-at, map-at, map-map}
+use Rattle.steps.proofs.Lists.{front, front-more, front-length, front-at, front-all, part-at, map-at, map-map, take-own}
 use Rattle.track.specs.Tracks.{live, marked, marks, rowsOf, moved, over, Sent}
 use Rattle.track.specs.declared.track.Track.{Track}
 
@@ -22,6 +22,13 @@ noEntry = record { start = nan; duration = nan; done = false }
 
 abbrev pub noStep : Stepped
 noStep = stepped (row 0 nan nan) false
+
+-- as many entries count as the array holds at most, and they are its first
+pub count-within : (t : Track) → length (t .entries) ≡ maxEntries → length (live t) ≤ maxEntries
+count-within t l = omega (arith, length-take (t .count) (t .entries))
+
+pub count-own : (t : Track) (n : ℕ) → n ≡ length (live t) → take n (t .entries) ≡ live t
+count-own t n e = rw e (take-own (t .count) (t .entries))
 
 -- each step's part of the three slices
 abbrev pub kindsOf : List Stepped → List ℕ

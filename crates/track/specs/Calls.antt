@@ -1,5 +1,6 @@
 -- The calls on a track: what each leaves, sends, answers and refuses. `trackStep` is the definition of them all.
 use Prim.Native.Nat.{ℕ}
+use mathlib.Core.Path.{_≡_}
 use mathlib.Core.Bool.{Bool, true, false, not, _&&_, _||_, cond}
 use mathlib.Core.List.{List, [], _∷_, map}
 use lib.Dec.{ltb}
@@ -18,8 +19,9 @@ use Rattle.track.specs.declared.clock.TimelineState.{TimelineState}
 use Rattle.track.specs.declared.clock.TimelineState.the-variants.{Idle, Playing, Paused, Completed}
 use Rattle.track.specs.declared.track.Track.{Track}
 use Rattle.track.specs.declared.track.TrackMoved.{TrackMoved}
+use Rattle.track.specs.declared.track.TrackUpdated.{TrackUpdated}
 use Rattle.track.specs.Clocks.{isCompleted, scaled, cleared, started, played, paused, resumed, seekTo, sought}
-use Rattle.track.specs.Tracks.{live, trackBase, trackRun, shareOf, rowsOf, moved}
+use Rattle.track.specs.Tracks.{live, trackBase, trackRun, shareOf, rowsOf, over, moved, Sent}
 use Rattle.track.specs.Updates.{repliesBad, Advance, playing, advancedClock}
 
 -- how many places of each row slice are lent
@@ -113,13 +115,17 @@ updatedIn Completed k dt rs = rested k false
 unfoldable pub updated : Track → Float → List ℕ → TrackOut
 updated k dt rs = updatedIn (k .clock .state) k dt rs
 
+-- 5: "the update's completions, counted by the Rust's rule, outnumber the lent list"
+abbrev pub fitted : ℕ → Track → TrackOut → TrackOut
+fitted list k o = unless (ltb list (length (o .listed))) listTooShort k o
+
 -- `update`: "Order: 3, 4, 5. A panel that isn't Playing still checks 3 and 4."
 unfoldable pub updatedWith : Track → Float → List ℕ → ℕ → Room → TrackOut
 updatedWith k dt rs list r =
     let o = updated k dt rs in
     unless (short r k) rowsTooShort k
     (unless (repliesBad rs k) badReplies k
-    (unless (ltb list (length (o .listed))) listTooShort k o))
+    (fitted list k o))
 
 -- the preview: "the rows that `update` with room enough would write and changes nothing in the panel"; "it refuses by 3 only"
 unfoldable pub previewed : Track → Float → Room → TrackOut
@@ -148,3 +154,24 @@ trackStep k (Preview dt r) = previewed k dt r
 -- the answer of play, reset and the seeks
 abbrev pub movedBy : TrackOut → TrackMoved
 movedBy o = record { refusal = o .refusal; track = o .track }
+
+-- the answer of `update`: of the completed entries, how many it wrote to the lent list
+abbrev pub updatedBy : TrackOut → TrackUpdated
+updatedBy o = record { refusal = o .refusal; running = o .running; completed = o .completed; listed = length (o .listed); track = o .track }
+
+-- the answer of an update that has sent its steps to the track k and comes to elapsed
+abbrev pub finished : Track → Float → Bool → ℕ → TrackUpdated
+finished k elapsed ended listed =
+    record {
+      refusal = accepted;
+      running = not ended;
+      completed = ended && not (k .clock .«complete_fired»);
+      listed = listed;
+      track = withClock k (advancedClock (k .clock) elapsed ended);
+    }
+
+-- what an update with the outcome o answers, and leaves in the lent list and the three row slices
+pub record Answered (o : TrackOut) (r : TrackUpdated) (l₀ l k₀ k : List ℕ) (a₀ a p₀ p : List Float) : Type 0 where
+  pub answer : r ≡ updatedBy o
+  pub rows : Sent (o .rows) k₀ k a₀ a p₀ p
+  pub list : l ≡ over (o .listed) l₀

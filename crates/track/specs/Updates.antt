@@ -72,6 +72,13 @@ syncedTo mode es base prev next elapsed ended =
       listed = completionsBetween mode es prev next;
     }
 
+abbrev pub isOnce : Loop → Bool
+isOnce Once = true
+isOnce (Times n) = false
+isOnce Forever = false
+isOnce PingPong = false
+isOnce (PingPongTimes n) = false
+
 -- `update` while Playing, from prev to next, by the mode; a finite run bounds it and ends it
 abbrev pub advanced : Loop → List Entry → Float → Float → Float → List ℕ → Advance
 advanced Once es base prev next rs = tickedTo es base prev next rs

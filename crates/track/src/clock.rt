@@ -2,6 +2,7 @@
 ghost use mathlib.Core.Path.{_≡_};
 ghost use mathlib.Core.Bool.{cond};
 ghost use Rattle.track.specs.Clocks.{isPlaying, isCompleted, withState, scaled, cleared, started, playState, played, pausedState, paused, resumedState, resumed, unended, seekTo, seekState, sought};
+ghost use Rattle.track.specs.Updates.{nextElapsed, advancedClock};
 
 // The playback state of a timeline.
 pub enum TimelineState {
@@ -199,6 +200,31 @@ impl Clock {
             state: next,
             time_scale: self.time_scale,
             complete_fired: self.complete_fired,
+        }
+    }
+    // The elapsed time to which `update` would go, in a run without end.
+    pub fn next_elapsed(self, dt: f32) -> f32
+        ensures { λ r. ⌜ r ≡ nextElapsed self dt ⌝ }
+    {
+        let step = float32::max(dt, 0.0) * self.time_scale;
+        self.elapsed + step
+    }
+
+    // `update` that comes to elapsed. Where the run ends there it is Completed, and the whole-run completion has fired.
+    pub fn advanced(self, elapsed: f32, ended: bool) -> Clock
+        ensures { λ r. ⌜ r ≡ advancedClock self elapsed ended ⌝ }
+    {
+        if ended {
+            Clock {
+                elapsed,
+                state: TimelineState::Completed,
+                time_scale: self.time_scale,
+                complete_fired: true,
+            }
+        } else {
+            let mut c = self;
+            c.elapsed = elapsed;
+            c
         }
     }
 }

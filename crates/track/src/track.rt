@@ -33,8 +33,17 @@ pub struct TrackMoved {
     pub track: Track,
 }
 
+// The answer of update: whether it still runs, whether the whole-run completion fired, and how many entries were listed.
+pub struct TrackUpdated {
+    pub refusal: u8,
+    pub running: bool,
+    pub completed: bool,
+    pub listed: usize,
+    pub track: Track,
+}
+
 // To every entry what the rule sends, into the three slices, and its mark.
-fn apply(
+pub(crate) fn apply(
     track: Track,
     rule: Rule,
     kinds: &mut [u8],

@@ -1,0 +1,96 @@
+-- The whole update: refusals 3 and 4, and then by the state.
+use Prim.Native.Nat.{ℕ, _≤_}
+use mathlib.Core.Path.{_≡_, refl, sym, _∙_}
+use mathlib.Core.Bool.{Bool, true, false, not, _||_, false≢true, true≢false}
+use mathlib.Core.List.{List}
+use native.Mathlib.Omega.{arith}
+use borrow.Author.Tests.{le-ltb, ltb-false}
+use lib.Dec.{ltb}
+use lib.ListN.{length, take}
+use lib.Ieee.{Float}
+use Rattle.refusal.specs.Refusal.{rowsTooShort, badReplies}
+use Rattle.track.specs.Clocks.{isPlaying, isCompleted}
+use Rattle.track.specs.Tracks.{live, Sent}
+use Rattle.track.specs.Updates.{aboveOne, repliesBad, playing}
+use Rattle.track.specs.Calls.{Update, Room, roomOf, TrackOut, silent, short, fitted, rested, advancedTo, updatedIn, updated, updatedWith, trackStep, updatedBy, Answered}
+use Rattle.track.specs.declared.clock.TimelineState.{TimelineState}
+use Rattle.track.specs.declared.clock.TimelineState.the-variants.{Idle, Playing, Paused, Completed}
+use Rattle.track.specs.declared.track.Track.{Track}
+use Rattle.track.specs.declared.track.TrackUpdated.{TrackUpdated}
+use Rattle.track.proofs.Updating.{refusing, passing}
+
+-- ---- by the state
+
+module _ (t : Track) (dt : Float) (rs : List ℕ) where
+  pub plays : (s : TimelineState) → isPlaying s ≡ true → updatedIn s t dt rs ≡ advancedTo t (playing t dt rs)
+  plays Idle e = absurd (false≢true e)
+  plays Playing e = refl
+  plays Paused e = absurd (false≢true e)
+  plays Completed e = absurd (false≢true e)
+
+  pub rests : (s : TimelineState) → isPlaying s ≡ false → updatedIn s t dt rs ≡ rested t (not (isCompleted s))
+  rests Idle e = refl
+  rests Playing e = absurd (true≢false e)
+  rests Paused e = refl
+  rests Completed e = refl
+
+-- ---- what the checks leave
+
+neither : (a b : Bool) → (a || b) ≡ false → (a ≡ false) × (b ≡ false)
+neither true b e = absurd (true≢false e)
+neither false b e = (refl, e)
+
+-- the three slices have room
+pub room-left : (t : Track) (k : List ℕ) (a p : List Float) → short (roomOf k a p) t ≡ false
+    → (length (live t) ≤ length k) × ((length (live t) ≤ length a) × (length (live t) ≤ length p))
+room-left t k a p e =
+    let n = length (live t) in
+    let x = neither (ltb (length k) n) (ltb (length a) n || ltb (length p) n) e in
+    let y = neither (ltb (length a) n) (ltb (length p) n) (x .1) in
+    (ltb-false (length k) n (x .0), (ltb-false (length a) n (y .0), ltb-false (length p) n (y .1)))
+
+-- there are replies enough
+pub replies-left : (t : Track) (rs : List ℕ) → repliesBad rs t ≡ false → length (live t) ≤ length rs
+replies-left t rs e = ltb-false (length rs) (length (live t)) (neither (ltb (length rs) (length (live t))) (aboveOne (take (length (live t)) rs)) e .0)
+
+-- the tests, of as many entries as have been counted
+pub short-same : (t : Track) (k : List ℕ) (a p : List Float) {n : ℕ} {b : Bool} → n ≡ length (live t) → b ≡ (ltb (length k) n || (ltb (length a) n || ltb (length p) n)) → short (roomOf k a p) t ≡ b
+short-same t k a p en e = sym (rw en at e)
+
+pub bad-same : (t : Track) (rs : List ℕ) {n : ℕ} {b : Bool} → n ≡ length (live t) → b ≡ (ltb (length rs) n || aboveOne (take n rs)) → repliesBad rs t ≡ b
+bad-same t rs en e = sym (rw en at e)
+
+-- ---- the answer
+
+module _ (t : Track) (dt : Float) (rs l₀ k₀ : List ℕ) (a₀ p₀ : List Float) where
+  abbrev out : TrackOut
+  out = trackStep t (Update dt rs (length l₀) (roomOf k₀ a₀ p₀))
+
+  pub too-short : {r : TrackUpdated} → short (roomOf k₀ a₀ p₀) t ≡ true → r ≡ updatedBy (silent rowsTooShort t) → Answered out r l₀ l₀ k₀ k₀ a₀ a₀ p₀ p₀
+  unfolding trackStep updatedWith
+  too-short e er = refusing _ _ t _ _ l₀ k₀ a₀ p₀ e er
+
+  module _ (s : short (roomOf k₀ a₀ p₀) t ≡ false) where
+    pub bad : {r : TrackUpdated} → repliesBad rs t ≡ true → r ≡ updatedBy (silent badReplies t) → Answered out r l₀ l₀ k₀ k₀ a₀ a₀ p₀ p₀
+    unfolding trackStep updatedWith
+    bad e er = passing l₀ l₀ k₀ k₀ a₀ a₀ p₀ p₀ _ _ t _ _ s (refusing _ _ t _ _ l₀ k₀ a₀ p₀ e er)
+
+    module _ (g : repliesBad rs t ≡ false) where
+      accepted : (l k : List ℕ) (a p : List Float) (r : TrackUpdated) (o : TrackOut) → updated t dt rs ≡ o → Answered (fitted (length l₀) t o) r l₀ l k₀ k a₀ a p₀ p → Answered out r l₀ l k₀ k a₀ a p₀ p
+      unfolding trackStep updatedWith
+      accepted l k a p r o e h = passing l₀ l k₀ k a₀ a p₀ p _ _ t _ _ s (passing l₀ l k₀ k a₀ a p₀ p _ _ t _ _ g (rw e h))
+
+      -- while Playing
+      pub plays-on : (l k : List ℕ) (a p : List Float) {b : Bool} {r : TrackUpdated} → b ≡ isPlaying (t .clock .state) → b ≡ true
+          → Answered (fitted (length l₀) t (advancedTo t (playing t dt rs))) r l₀ l k₀ k a₀ a p₀ p → Answered out r l₀ l k₀ k a₀ a p₀ p
+      unfolding updated
+      plays-on l k a p eb e h = accepted l k a p _ _ (plays t dt rs (t .clock .state) (sym eb ∙ e)) h
+
+      -- else
+      pub rests-on : (k : List ℕ) (a p : List Float) {b : Bool} {r : TrackUpdated} → b ≡ isPlaying (t .clock .state) → b ≡ false
+          → r ≡ updatedBy (rested t (not (isCompleted (t .clock .state)))) → Sent (rested t (not (isCompleted (t .clock .state))) .rows) k₀ k a₀ a p₀ p → Answered out r l₀ l₀ k₀ k a₀ a p₀ p
+      unfolding updated rested
+      rests-on k a p eb e er rows =
+          let o = rested t (not (isCompleted (t .clock .state))) in
+          accepted l₀ k a p _ o (rests t dt rs (t .clock .state) (sym eb ∙ e))
+          (passing l₀ l₀ k₀ k a₀ a p₀ p _ _ t o _ (le-ltb (length l₀) 0 (omega arith)) (record { answer = er; rows = rows; list = refl }))
