@@ -1,18 +1,20 @@
--- The whole update: refusals 3 and 4, and then by the state.
+-- The whole update and its preview: refusals 3 and 4, and then by the state.
 use Prim.Native.Nat.{ℕ, _≤_}
 use mathlib.Core.Path.{_≡_, refl, sym, _∙_}
 use mathlib.Core.Bool.{Bool, true, false, not, _||_, false≢true, true≢false}
-use mathlib.Core.List.{List}
+use mathlib.Core.List.{List, [], map}
 use native.Mathlib.Omega.{arith}
 use borrow.Author.Tests.{le-ltb, ltb-false}
 use lib.Dec.{ltb}
 use lib.ListN.{length, take}
 use lib.Ieee.{Float}
-use Rattle.refusal.specs.Refusal.{rowsTooShort, badReplies}
+use Rattle.refusal.specs.Refusal.{accepted, rowsTooShort, badReplies}
+use Rattle.steps.specs.declared.Rule.the-variants.{Keep}
+use Rattle.steps.specs.Rows.{ruled}
 use Rattle.track.specs.Clocks.{isPlaying, isCompleted}
-use Rattle.track.specs.Tracks.{live, Sent}
+use Rattle.track.specs.Tracks.{live, rowsOf, Sent}
 use Rattle.track.specs.Updates.{aboveOne, repliesBad, playing}
-use Rattle.track.specs.Calls.{Update, Room, roomOf, TrackOut, silent, short, fitted, rested, advancedTo, updatedIn, updated, updatedWith, trackStep, updatedBy, Answered}
+use Rattle.track.specs.Calls.{Update, Preview, Room, roomOf, TrackOut, silent, short, fitted, rested, advancedTo, updatedIn, updated, updatedWith, previewed, trackStep, updatedBy, Answered}
 use Rattle.track.specs.declared.clock.TimelineState.{TimelineState}
 use Rattle.track.specs.declared.clock.TimelineState.the-variants.{Idle, Playing, Paused, Completed}
 use Rattle.track.specs.declared.track.Track.{Track}
@@ -76,15 +78,15 @@ module _ (t : Track) (dt : Float) (rs l₀ k₀ : List ℕ) (a₀ p₀ : List Fl
     bad e er = passing l₀ l₀ k₀ k₀ a₀ a₀ p₀ p₀ _ _ t _ _ s (refusing _ _ t _ _ l₀ k₀ a₀ p₀ e er)
 
     module _ (g : repliesBad rs t ≡ false) where
-      accepted : (l k : List ℕ) (a p : List Float) (r : TrackUpdated) (o : TrackOut) → updated t dt rs ≡ o → Answered (fitted (length l₀) t o) r l₀ l k₀ k a₀ a p₀ p → Answered out r l₀ l k₀ k a₀ a p₀ p
+      accepting : (l k : List ℕ) (a p : List Float) (r : TrackUpdated) (o : TrackOut) → updated t dt rs ≡ o → Answered (fitted (length l₀) t o) r l₀ l k₀ k a₀ a p₀ p → Answered out r l₀ l k₀ k a₀ a p₀ p
       unfolding trackStep updatedWith
-      accepted l k a p r o e h = passing l₀ l k₀ k a₀ a p₀ p _ _ t _ _ s (passing l₀ l k₀ k a₀ a p₀ p _ _ t _ _ g (rw e h))
+      accepting l k a p r o e h = passing l₀ l k₀ k a₀ a p₀ p _ _ t _ _ s (passing l₀ l k₀ k a₀ a p₀ p _ _ t _ _ g (rw e h))
 
       -- while Playing
       pub plays-on : (l k : List ℕ) (a p : List Float) {b : Bool} {r : TrackUpdated} → b ≡ isPlaying (t .clock .state) → b ≡ true
           → Answered (fitted (length l₀) t (advancedTo t (playing t dt rs))) r l₀ l k₀ k a₀ a p₀ p → Answered out r l₀ l k₀ k a₀ a p₀ p
       unfolding updated
-      plays-on l k a p eb e h = accepted l k a p _ _ (plays t dt rs (t .clock .state) (sym eb ∙ e)) h
+      plays-on l k a p eb e h = accepting l k a p _ _ (plays t dt rs (t .clock .state) (sym eb ∙ e)) h
 
       -- else
       pub rests-on : (k : List ℕ) (a p : List Float) {b : Bool} {r : TrackUpdated} → b ≡ isPlaying (t .clock .state) → b ≡ false
@@ -92,5 +94,27 @@ module _ (t : Track) (dt : Float) (rs l₀ k₀ : List ℕ) (a₀ p₀ : List Fl
       unfolding updated rested
       rests-on k a p eb e er rows =
           let o = rested t (not (isCompleted (t .clock .state))) in
-          accepted l₀ k a p _ o (rests t dt rs (t .clock .state) (sym eb ∙ e))
+          accepting l₀ k a p _ o (rests t dt rs (t .clock .state) (sym eb ∙ e))
           (passing l₀ l₀ k₀ k a₀ a p₀ p _ _ t o _ (le-ltb (length l₀) 0 (omega arith)) (record { answer = er; rows = rows; list = refl }))
+
+-- ---- the preview
+
+module _ (t : Track) (dt : Float) (k₀ : List ℕ) (a₀ p₀ : List Float) where
+  abbrev shown : TrackOut
+  shown = trackStep t (Preview dt (roomOf k₀ a₀ p₀))
+
+  -- refused by 3
+  pub shows-none : short (roomOf k₀ a₀ p₀) t ≡ true → (rowsTooShort ≡ shown .refusal) × Sent (shown .rows) k₀ k₀ a₀ a₀ p₀ p₀
+  unfolding trackStep previewed
+  shows-none e = rw e (refl, record { kinds = refl; amounts = refl; places = refl })
+
+  module _ (s : short (roomOf k₀ a₀ p₀) t ≡ false) (k : List ℕ) (a p : List Float) {b : Bool} (eb : b ≡ isPlaying (t .clock .state)) where
+    -- while Playing
+    pub shows-play : b ≡ true → Sent (rowsOf (playing t dt [] .steps)) k₀ k a₀ a p₀ p → (accepted ≡ shown .refusal) × Sent (shown .rows) k₀ k a₀ a p₀ p
+    unfolding trackStep previewed updated advancedTo
+    shows-play e h = rw (s, plays t dt [] (t .clock .state) (sym eb ∙ e)) (refl, h)
+
+    -- else
+    pub shows-rest : b ≡ false → Sent (rowsOf (map (ruled Keep) (live t))) k₀ k a₀ a p₀ p → (accepted ≡ shown .refusal) × Sent (shown .rows) k₀ k a₀ a p₀ p
+    unfolding trackStep previewed updated rested
+    shows-rest e h = rw (s, rests t dt [] (t .clock .state) (sym eb ∙ e)) (refl, h)

@@ -5,3 +5,4 @@ pub mod Ticks
 pub mod Replies
 pub mod Updating
 pub mod Checks
+pub mod Claims

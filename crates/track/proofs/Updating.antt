@@ -13,6 +13,7 @@ use Rattle.tween.specs.declared.loop_mode.Loop.the-variants.{Once, Times, Forev
 use Rattle.float32.specs.Helpers.{zeroF, minF}
 use Rattle.refusal.specs.Refusal.{accepted, listTooShort}
 use Rattle.steps.specs.declared.Entry.{Entry}
+use Rattle.steps.specs.declared.Stepped.{Stepped}
 use Rattle.steps.specs.declared.Rule.the-variants.{Sync}
 use Rattle.steps.specs.Times.{localTime}
 use Rattle.steps.specs.Rows.{ruled}
@@ -55,6 +56,10 @@ module _ (l₀ l k₀ k : List ℕ) (a₀ a p₀ p : List Float) where
       passing (ltb (length l₀) (length (x .listed))) listTooShort t (advancedTo t x) r fits
       (record { answer = rw (er, eq, ee, eb, en); rows = rows; list = el })
 
+-- the same steps send the same
+pub sent-same : (xs ys : List Stepped) (k₀ k : List ℕ) (a₀ a p₀ p : List Float) → xs ≡ ys → Sent (rowsOf ys) k₀ k a₀ a p₀ p → Sent (rowsOf xs) k₀ k a₀ a p₀ p
+sent-same xs ys k₀ k a₀ a p₀ p e h = subst⁻¹ (λ (ss : List Stepped). Sent (rowsOf ss) k₀ k a₀ a p₀ p) e h
+
 -- ---- the completions, as the walk answers
 
 module _ (xs old new : List ℕ) where
@@ -78,7 +83,7 @@ module _ (t : Track) (base next : Float) (rs : List ℕ) {from to : Float} {ende
   abbrev tick : Advance
   tick = tickedTo (live t) base (t .clock .elapsed) next rs
 
-  steps-same : ticks from to (live t) rs ≡ tick .steps
+  pub steps-same : ticks from to (live t) rs ≡ tick .steps
   unfolding tickedTo
   steps-same = rw (ef, et)
 
@@ -96,7 +101,7 @@ module _ (t : Track) (base next : Float) (rs : List ℕ) {from to : Float} {ende
       → Answered (fitted (length l₀) t (advancedTo t tick)) r l₀ l k₀ k a₀ a p₀ p
   unfolding tickedTo
   tick-answered l₀ l k₀ k a₀ a p₀ p eb e eq rows en el er =
-      finishing l₀ l k₀ k a₀ a p₀ p t tick _ to ended _ _ (eq ∙ ap (moved t (t .clock)) steps-same) (rw steps-same at rows) et ee
+      finishing l₀ l k₀ k a₀ a p₀ p t tick _ to ended _ _ (eq ∙ ap (moved t (t .clock)) steps-same) (sent-same _ _ k₀ k a₀ a p₀ p (sym steps-same) rows) et ee
       (ap (λ (xs : List ℕ). ltb (length l₀) (length xs)) (sym listed-same) ∙ sym eb ∙ e) (en ∙ ap length listed-same) (el ∙ ap (λ (xs : List ℕ). over xs l₀) listed-same) er
 
 -- ---- the other modes, by what the walk answers
@@ -104,6 +109,10 @@ module _ (t : Track) (base next : Float) (rs : List ℕ) {from to : Float} {ende
 module _ (t : Track) (base next elapsed : Float) (ended : Bool) where
   abbrev sync : Advance
   sync = syncedTo (t .looping) (live t) base (t .clock .elapsed) next elapsed ended
+
+  pub sync-steps : {time : Float} → time ≡ localTime (t .looping) base elapsed → map (ruled (Sync time)) (live t) ≡ sync .steps
+  unfolding syncedTo
+  sync-steps et = rw et
 
   abbrev walked : List ℕ
   walked = completionsBetween (t .looping) (live t) (t .clock .elapsed) next
@@ -121,7 +130,7 @@ module _ (t : Track) (base next elapsed : Float) (ended : Bool) where
   unfolding syncedTo
   sync-answered l₀ l k₀ k a₀ a p₀ p h e et eq rows er =
       let o = listed-within walked l₀ l _ (rw e at h) in
-      finishing l₀ l k₀ k a₀ a p₀ p t sync _ elapsed ended _ _ (rw et at eq) (rw et at rows) refl refl (o .0) (o .1) (o .2) er
+      finishing l₀ l k₀ k a₀ a p₀ p t sync _ elapsed ended _ _ (eq ∙ ap (moved t (t .clock)) (sync-steps et)) (sent-same _ _ k₀ k a₀ a p₀ p (sym (sync-steps et)) rows) refl refl (o .0) (o .1) (o .2) er
 
 -- ---- by the mode
 

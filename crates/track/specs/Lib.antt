@@ -2,3 +2,4 @@ pub mod Clocks
 pub mod Tracks
 pub mod Updates
 pub mod Calls
+pub mod Claims

@@ -21,6 +21,7 @@ ghost use Rattle.track.specs.Clocks.{isCompleted, isPlaying};
 ghost use Rattle.track.specs.Tracks.{live, rowsOf, moved, over, Sent};
 ghost use Rattle.track.specs.Updates.{isOnce, aboveOne, ticks, keepIf, newlyDone, tickedTo, syncedTo, advanced, playing};
 ghost use Rattle.track.specs.Calls.{Update, Preview, roomOf, silent, rested, advancedTo, fitted, trackStep, updatedBy, finished, Answered};
+ghost use Rattle.track.specs.Claims.{Claims};
 
 // Where an update comes to: the elapsed time, and whether the run ends there.
 struct Reach {
@@ -359,6 +360,61 @@ fn rest(track: Track, kinds: &mut [u8], amounts: &mut [f32], places: &mut [f32])
     }
 }
 
+// To every entry the row of a tick. No row depends on the replies.
+fn show_tick(
+    track: Track,
+    prev: f32,
+    next: f32,
+    kinds: &mut [u8],
+    amounts: &mut [f32],
+    places: &mut [f32],
+)
+    requires { ⌜ length (live track) ≤ length (now kinds) ⌝ }
+    requires { ⌜ length (live track) ≤ length (now amounts) ⌝ }
+    requires { ⌜ length (live track) ≤ length (now places) ⌝ }
+    ensures { λ _. ⌜ Sent (rowsOf (ticks prev next (live track) [])) (now (kinds .entry)) (now (kinds .exit)) (now (amounts .entry)) (now (amounts .exit)) (now (places .entry)) (now (places .exit)) ⌝ }
+{
+    let replies = [1u8; MAX_ENTRIES];
+    let mut list = [0u8; MAX_ENTRIES];
+    tick(
+        track,
+        prev,
+        next,
+        &replies,
+        &mut list,
+        kinds,
+        amounts,
+        places,
+    );
+}
+
+// To every entry the row of an update while Playing.
+fn show_play(track: Track, dt: f32, kinds: &mut [u8], amounts: &mut [f32], places: &mut [f32])
+    requires { ⌜ length (live track) ≤ length (now kinds) ⌝ }
+    requires { ⌜ length (live track) ≤ length (now amounts) ⌝ }
+    requires { ⌜ length (live track) ≤ length (now places) ⌝ }
+    ensures { λ _. ⌜ Sent (rowsOf (playing track dt [] .steps)) (now (kinds .entry)) (now (kinds .exit)) (now (amounts .entry)) (now (amounts .exit)) (now (places .entry)) (now (places .exit)) ⌝ }
+{
+    let base = track.duration();
+    let c = track.clock;
+    if base == 0.0 {
+        apply(track, Rule::Keep, kinds, amounts, places);
+        return;
+    }
+    let next = c.next_elapsed(dt);
+    let mode = track.looping;
+    let to = reach_in(mode, base, next);
+    let end = to.elapsed;
+    if is_once(mode) {
+        let from = float32::min(c.elapsed, base);
+        show_tick(track, from, end, kinds, amounts, places);
+        return;
+    }
+    let t = steps::local_time(mode, base, end);
+    let rule = Rule::Sync(t);
+    apply(track, rule, kinds, amounts, places);
+}
+
 impl Track {
     // `update`, with each leaf's reply. The list holds the numbers of the entries that completed.
     pub fn update(
@@ -388,4 +444,27 @@ impl Track {
         }
         rest(self, kinds, amounts, places)
     }
+    // The rows that `update` with room enough would write. It refuses by 3 only.
+    pub fn preview(self, dt: f32, kinds: &mut [u8], amounts: &mut [f32], places: &mut [f32]) -> u8
+        ensures { λ r. ⌜ r ≡ trackStep self (Preview dt (roomOf (now (kinds .entry)) (now (amounts .entry)) (now (places .entry)))) .refusal ⌝ }
+        ensures { λ _. ⌜ Sent (trackStep self (Preview dt (roomOf (now (kinds .entry)) (now (amounts .entry)) (now (places .entry)))) .rows) (now (kinds .entry)) (now (kinds .exit)) (now (amounts .entry)) (now (amounts .exit)) (now (places .entry)) (now (places .exit)) ⌝ }
+    {
+        let n = self.entry_count();
+        if rows_short(n, kinds.len(), amounts.len(), places.len()) {
+            return refusal::ROWS_TOO_SHORT;
+        }
+        let c = self.clock;
+        let state = c.state;
+        if crate::clock::is_playing(state) {
+            show_play(self, dt, kinds, amounts, places);
+            return refusal::ACCEPTED;
+        }
+        apply(self, Rule::Keep, kinds, amounts, places);
+        refusal::ACCEPTED
+    }
 }
+
+// The claims of specs/Claims.antt hold.
+pub fn claimed()
+    ensures { λ r. ⌜ Claims ⌝ }
+{}
