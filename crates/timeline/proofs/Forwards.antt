@@ -5,12 +5,15 @@ use mathlib.Core.List.{List}
 use lib.Ieee.{Float}
 use Rattle.track.specs.declared.track.Track.{Track}
 use Rattle.track.specs.declared.track.TrackMoved.{TrackMoved}
-use Rattle.track.specs.Tracks.{Sent}
+use Rattle.track.specs.declared.track.TrackUpdated.{TrackUpdated}
+use Rattle.track.specs.Tracks.{over, Sent}
+use Rattle.track.specs.Calls as track
 use Rattle.track.specs.Calls.{TrackCall, trackStep}
 use Rattle.track.proofs.Sending.{Answers}
 use Rattle.timeline.specs.declared.timeline.Timeline.{Timeline}
 use Rattle.timeline.specs.declared.timeline.Moved.{Moved}
-use Rattle.timeline.specs.Calls.{On, withTrack, step, movedBy}
+use Rattle.timeline.specs.declared.timeline.Updated.{Updated}
+use Rattle.timeline.specs.Calls.{On, withTrack, step, movedBy, updatedBy}
 
 module _ (t : Timeline) (call : TrackCall) where
   -- a call that answers nothing more than the timeline
@@ -26,3 +29,19 @@ module _ (t : Timeline) (call : TrackCall) where
       → (r ≡ movedBy (step t (On call))) × Sent (step t (On call) .rows) k k′ a a′ p p′
   unfolding step
   forwards-moved m r k k′ a a′ p p′ e h = (rw (e, h .0), h .1)
+
+  -- the answer of an update, its rows and the list
+  abbrev pub forwardedUpdate : TrackUpdated → Updated
+  forwardedUpdate u = record { refusal = u .refusal; running = u .running; completed = u .completed; listed = u .listed; timeline = withTrack t (u .track) }
+
+  pub forwards-updated : (u : TrackUpdated) (r : Updated) (k k′ : List ℕ) (a a′ p p′ : List Float) (l l′ : List ℕ) → r ≡ forwardedUpdate u
+      → u ≡ track.updatedBy (trackStep (t .track) call) → Sent (trackStep (t .track) call .rows) k k′ a a′ p p′ → l′ ≡ over (trackStep (t .track) call .listed) l
+      → (r ≡ updatedBy (step t (On call))) × (Sent (step t (On call) .rows) k k′ a a′ p p′ × (l′ ≡ over (step t (On call) .listed) l))
+  unfolding step
+  forwards-updated u r k k′ a a′ p p′ l l′ e h s o = (rw (e, h), (s, o))
+
+  -- a call whose refusal alone is answered
+  pub forwards-refusal : (n : ℕ) (k k′ : List ℕ) (a a′ p p′ : List Float) → (n ≡ trackStep (t .track) call .refusal) × Sent (trackStep (t .track) call .rows) k k′ a a′ p p′
+      → (n ≡ step t (On call) .refusal) × Sent (step t (On call) .rows) k k′ a a′ p p′
+  unfolding step
+  forwards-refusal n k k′ a a′ p p′ h = h

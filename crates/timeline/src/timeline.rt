@@ -11,6 +11,7 @@ use track::track::Secs;
 use track::track::Share;
 use track::track::Track;
 use track::track::TrackMoved;
+use track::track::TrackUpdated;
 use tween::Loop;
 ghost use mathlib.Core.Path.{_≡_};
 ghost use Prim.Native.Nat.{_<_};
@@ -18,10 +19,10 @@ ghost use lib.ListN.{length, getD};
 ghost use Rattle.steps.specs.Times.{maxEntries};
 ghost use Rattle.label.specs.Label.{firstLike};
 ghost use Rattle.track.specs.Clocks.{isCompleted};
-ghost use Rattle.track.specs.Tracks.{live, trackBase, trackRun, progressOf, blank, Sent};
-ghost use Rattle.track.specs.Calls.{Looping, SetTimeScale, Play, Pause, Resume, Reset, Seek, SeekAbs, roomOf};
+ghost use Rattle.track.specs.Tracks.{live, trackBase, trackRun, progressOf, blank, over, Sent};
+ghost use Rattle.track.specs.Calls.{Looping, SetTimeScale, Play, Pause, Resume, Reset, Seek, SeekAbs, Update, Preview, roomOf};
 ghost use Rattle.timeline.specs.Placements.{empty, liveLabels, startFound, namedStart, resolveStart, grown};
-ghost use Rattle.timeline.specs.Calls.{Add, AddBoxed, AddAtLabel, On, addedAt, withTrack, step, addedBy, movedBy};
+ghost use Rattle.timeline.specs.Calls.{Add, AddBoxed, AddAtLabel, On, addedAt, withTrack, step, addedBy, movedBy, updatedBy};
 ghost use Rattle.timeline.specs.Introspections.{introspected};
 
 // Where an entry starts. The label case carries the number of an entry, and means that entry's label.
@@ -357,6 +358,49 @@ impl Timeline {
     {
         let track = self.track;
         track.playback_duration()
+    }
+
+    // Advances by dt seconds, with each leaf's reply (0 stopped, 1 running). The list takes the numbers of the entries that completed.
+    pub fn update(
+        self,
+        dt: f32,
+        replies: &[u8],
+        list: &mut [u8],
+        kinds: &mut [u8],
+        amounts: &mut [f32],
+        places: &mut [f32],
+    ) -> Updated
+        ensures { λ r. ⌜ r ≡ updatedBy (step self (On (Update dt (now (replies .entry)) (length (now (list .entry))) (roomOf (now (kinds .entry)) (now (amounts .entry)) (now (places .entry)))))) ⌝ }
+        ensures { λ _. ⌜ Sent (step self (On (Update dt (now (replies .entry)) (length (now (list .entry))) (roomOf (now (kinds .entry)) (now (amounts .entry)) (now (places .entry))))) .rows) (now (kinds .entry)) (now (kinds .exit)) (now (amounts .entry)) (now (amounts .exit)) (now (places .entry)) (now (places .exit)) ⌝ }
+        ensures { λ _. ⌜ now (list .exit) ≡ over (step self (On (Update dt (now (replies .entry)) (length (now (list .entry))) (roomOf (now (kinds .entry)) (now (amounts .entry)) (now (places .entry))))) .listed) (now (list .entry)) ⌝ }
+    {
+        let track = self.track;
+        let u = track.update(dt, replies, list, kinds, amounts, places);
+        self.updated(u)
+    }
+
+    // The rows that such an update would write, with room enough; the timeline stays. Answers the refusal.
+    pub fn preview(self, dt: f32, kinds: &mut [u8], amounts: &mut [f32], places: &mut [f32]) -> u8
+        ensures { λ r. ⌜ r ≡ step self (On (Preview dt (roomOf (now (kinds .entry)) (now (amounts .entry)) (now (places .entry))))) .refusal ⌝ }
+        ensures { λ _. ⌜ Sent (step self (On (Preview dt (roomOf (now (kinds .entry)) (now (amounts .entry)) (now (places .entry))))) .rows) (now (kinds .entry)) (now (kinds .exit)) (now (amounts .entry)) (now (amounts .exit)) (now (places .entry)) (now (places .exit)) ⌝ }
+    {
+        let track = self.track;
+        track.preview(dt, kinds, amounts, places)
+    }
+
+    // The answer of an update of what plays.
+    fn updated(self, u: TrackUpdated) -> Updated
+        ensures { λ r. ⌜ r ≡ record { refusal = u .refusal; running = u .running; completed = u .completed; listed = u .listed; timeline = withTrack self (u .track) } ⌝ }
+    {
+        let track = u.track;
+        let timeline = self.with_track(track);
+        Updated {
+            refusal: u.refusal,
+            running: u.running,
+            completed: u.completed,
+            listed: u.listed,
+            timeline,
+        }
     }
 
     // What is reported of it: its duration is the run.
