@@ -1,0 +1,13 @@
+-- `resume` is its step.
+use borrow.Author.Needs.{needs}
+use Rattle.group.proofs.group.AnimationGroup.resume.Statement.{statement}
+use Rattle.group.proofs.group.AnimationGroup.resume.Tie as tie
+
+resume-requires : tie.Need-resume-requires
+resume-requires c κs = search needs
+
+returns : tie.Need-returns
+returns c = cc
+
+pub resume-spec : {M : Type 1} → statement M
+resume-spec = tie.close (tie.spec resume-requires returns)

@@ -1,0 +1,22 @@
+-- `then_for` is its step.
+use Rattle.group.specs.Sequence.{sequenceStep}
+use borrow.Author.Needs.{needs}
+use Rattle.group.proofs.sequence.Sequence.then_for.Statement.{statement}
+use Rattle.group.proofs.sequence.Sequence.then_for.Tie as tie
+
+max-requires : tie.Need-max-requires
+max-requires c κs = search needs
+
+add-boxed-with-duration-requires : tie.Need-add-boxed-with-duration-requires
+add-boxed-with-duration-requires c κs = search needs
+
+then-by-requires : tie.Need-then-by-requires
+then-by-requires c κs = search needs
+
+returns : tie.Need-returns
+unfolding sequenceStep
+returns c = cc
+
+pub then-for-spec : {M : Type 1} → statement M
+then-for-spec =
+    tie.close (tie.spec max-requires add-boxed-with-duration-requires then-by-requires returns)
