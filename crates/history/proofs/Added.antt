@@ -9,11 +9,9 @@ use lib.ListN.{length, take, set}
 use lib.Seq.{take-suc-set}
 use lib.Ieee.{Float}
 use borrow.Author.Tests.{ltb-false, leb-false, lt-leb, le-ltb}
-use Rattle.float32.specs.Helpers.{zeroF, maxF}
 use Rattle.refusal.specs.Refusal.{accepted, timelineFull, labelTooLong}
 use Rattle.steps.specs.Times.{maxEntries}
 use Rattle.label.specs.Label.{maxLabel, text, labelOf}
-use Rattle.track.specs.Tracks.{live}
 use Rattle.timeline.specs.declared.timeline.Timeline.{Timeline}
 use Rattle.timeline.specs.Placements.{newEntry, grown}
 use Rattle.timeline.specs.Calls.{Out, silent, addedAt}
@@ -24,7 +22,7 @@ map-grown : {A B : Type 0} (f : A → B) (xs : List A) (n : ℕ) (x : A) → n <
 map-grown f xs n x h = rw (add-one, take-suc-set xs n x h, map-append)
 
 abbrev pub newSpan : Float → Float → Span
-newSpan start duration = record { start = start; duration = maxF duration zeroF }
+newSpan start duration = spanOf (newEntry start duration)
 
 module _ (t : Timeline) (name : List ℕ) (start duration : Float) where
   pub grown-spans : t .track .count < length (t .track .entries) → spans (grown t name start duration) ≡ spans t ++ (newSpan start duration ∷ [])

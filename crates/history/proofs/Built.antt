@@ -1,8 +1,8 @@
 -- A list's own accepted calls that add an entry or set the loop mode make a timeline of the same entries and mode.
-use mathlib.Core.Path.{_≡_, refl, sym, ap, _∙_, subst}
+use mathlib.Core.Path.{_≡_, refl, sym, ap, _∙_}
 use mathlib.Core.Bool.{Bool, true, false, _&&_, true≢false, false≢true}
 use mathlib.Core.List.{List, [], _∷_, map}
-use Prim.Native.Nat.{ℕ, _<_, _≤_}
+use Prim.Native.Nat.{ℕ, _<_}
 use native.Mathlib.Omega.{arith}
 use lib.Dec.{eqb}
 use lib.ListN.{length, take}
@@ -10,13 +10,13 @@ use lib.Seq.{length-take-le}
 use lib.Ieee.{Float}
 use Rattle.refusal.specs.Refusal.{accepted}
 use Rattle.steps.specs.Times.{maxEntries}
-use Rattle.label.specs.Label.{text, maxLabel}
+use Rattle.label.specs.Label.{text}
 use Rattle.track.specs.declared.track.Track.{Track}
 use Rattle.track.specs.Tracks.{live}
-use Rattle.track.specs.Calls.{TrackCall, Looping, trackStep}
+use Rattle.track.specs.Calls.{TrackCall, trackStep}
 use Rattle.timeline.specs.declared.timeline.Timeline.{Timeline}
-use Rattle.timeline.specs.Placements.{namedStart, resolveStart, grown}
-use Rattle.timeline.specs.Calls.{Call, Add, AddBoxed, AddAtLabel, On, Out, silent, addedAt, withTrack, step, after}
+use Rattle.timeline.specs.Placements.{namedStart, resolveStart}
+use Rattle.timeline.specs.Calls.{Call, On, Out, addedAt, withTrack, step, after}
 use Rattle.history.specs.Entries.{SameEntries}
 use Rattle.history.specs.Invariant.{Invariant}
 use Rattle.history.specs.Claim.{isAccepted, builds, AllBuild, keepCall, ownBuild}

@@ -1,35 +1,31 @@
 -- The claim about whole lists of calls, and what follows from it.
-use mathlib.Core.Path.{_≡_, refl, sym, ap, ap₂, _∙_, subst}
-use mathlib.Core.Bool.{Bool, true, false, _&&_, _||_, cond}
+use mathlib.Core.Path.{_≡_, refl, sym, ap, _∙_}
+use mathlib.Core.Bool.{true, false, _&&_, _||_, cond}
 use mathlib.Core.List.{List, map}
 use Prim.Native.Nat.{ℕ}
 use lib.Dec.{ltb}
-use lib.ListN.{length}
-use lib.Ieee.{Float, le, eq, isNan}
-use Rattle.float32.specs.Helpers.{zeroF, finiteF, nonnegF}
+use lib.Ieee.{Float, le, eq}
+use Rattle.float32.specs.Helpers.{finiteF, nonnegF}
 use Rattle.float32.proofs.Order.{not-lt-of-le}
 use Rattle.float32.proofs.Nonneg.{nonneg-no-nan, zero-le-nonneg}
-use Rattle.steps.specs.declared.Entry.{Entry}
-use Rattle.steps.specs.declared.Row.{Row}
-use Rattle.steps.specs.declared.Stepped.{Stepped}
 use Rattle.steps.specs.Rows.{synced}
 use Rattle.track.specs.declared.clock.TimelineState.{TimelineState}
 use Rattle.track.specs.declared.clock.TimelineState.the-variants.{Idle, Playing, Paused, Completed}
 use Rattle.track.specs.declared.track.Track.{Track}
 use Rattle.track.specs.Clocks.{seekTo as comesTo, unended, seekState, sought}
-use Rattle.track.specs.Tracks.{live, trackBase, trackRun, rowsOf}
+use Rattle.track.specs.Tracks.{live, trackRun, rowsOf}
 use Rattle.track.specs.Calls.{Room, short, trackStep}
 use Rattle.timeline.specs.declared.timeline.Timeline.{Timeline}
 use Rattle.timeline.specs.Placements.{empty}
 use Rattle.timeline.specs.Calls.{Call, Out, onTrack, step, after}
 use Rattle.history.specs.Entries.{SameEntries, doneMarks}
-use Rattle.history.specs.Claim.{elapsedOf, stateOf, isAccepted, NewlyBuilt, ownBuild, Noted, goingOn, seekTo, Alike, Sought, Seeks, Claim}
-use Rattle.history.proofs.Runs.{base-nonneg, run-nonneg, seek-nonneg, seek-most}
+use Rattle.history.specs.Claim.{elapsedOf, stateOf, isAccepted, ownBuild, Noted, goingOn, seekTo, SamePlace, Alike, Sought, Claim, PlacesAgree}
+use Rattle.history.proofs.Runs.{seek-nonneg, seek-most}
 use Rattle.history.proofs.Spans.{synced-same, runs, locals, lengths, same-refl}
 use Rattle.history.proofs.Kept.{empty-kept}
 use Rattle.history.proofs.Built.{Builds, own-builds}
 use Rattle.history.proofs.Sending.{soughtClock, soughtAll, seek-room, seek-is}
-use Rattle.history.proofs.Synced.{marksAt, marks-at-same, localAt, Synced, sync-marks, run-sound}
+use Rattle.history.proofs.Synced.{marksAt, marks-at-same, localAt, sync-marks, run-sound}
 use Rattle.history.proofs.Noted.{noted-synced}
 
 -- ---- an accepted seek
@@ -73,8 +69,7 @@ module _ (t u : Timeline) (s : SameEntries t u) (secs : Float) where
   alike : Alike (soughtOut t secs) (soughtOut u secs)
   alike =
       record {
-        elapsed = unfold sought in elapsed-same;
-        marks = sought-marks t secs ∙ marks-same ∙ sym (sought-marks u secs);
+        place = record { elapsed = unfold sought in elapsed-same; marks = sought-marks t secs ∙ marks-same ∙ sym (sought-marks u secs) };
         rows = rows-same;
       }
 
@@ -94,14 +89,15 @@ unfolding seekState
 state-is total elapsed s h = rw (le-is-eq total elapsed h, unended-is s)
 
 -- ---- 4. noted places
-back : (t n : Timeline) → SameEntries t n → Noted n → doneMarks (soughtOut t (elapsedOf n) .timeline) ≡ doneMarks n
+back : (t n : Timeline) → SameEntries t n → Noted n → SamePlace (soughtOut t (elapsedOf n) .timeline) n
 back t n s m =
     let y = noted-synced n m in
-    sought-marks t (elapsedOf n) ∙ marks-same t n s (elapsedOf n)
-    ∙ ap (λ (x : Float). marksAt (localAt (n .track) x) (live (n .track))) (y .stays (m .number)) ∙ sym (y .marks)
-
-back-elapsed : (t n : Timeline) → SameEntries t n → Noted n → comesTo (trackRun (t .track)) (elapsedOf n) ≡ elapsedOf n
-back-elapsed t n s m = elapsed-same t n s (elapsedOf n) ∙ noted-synced n m .stays (m .number)
+    record {
+      elapsed = unfold sought in elapsed-same t n s (elapsedOf n) ∙ y .stays (m .number);
+      marks =
+          sought-marks t (elapsedOf n) ∙ marks-same t n s (elapsedOf n)
+          ∙ ap (λ (x : Float). marksAt (localAt (n .track) x) (live (n .track))) (y .stays (m .number)) ∙ sym (y .marks);
+    }
 
 -- ---- the claim
 sought-is : (calls : List Call) (t : Timeline) (secs : Float) (room : Room) → Builds empty t (ownBuild empty calls) → short room (t .track) ≡ false → Sought calls t secs room (soughtOut t secs)
@@ -116,7 +112,7 @@ sought-is calls t secs room own h =
       least = unfold sought in zero-le-nonneg (comesTo (trackRun (t .track)) secs) sound;
       most = unfold sought in most;
       state = unfold sought in state-is (trackRun (t .track)) (comesTo (trackRun (t .track)) secs) (stateOf t) most;
-      back = λ n m s e. (unfold sought in rw e (back-elapsed t n s m), rw e (back t n s m));
+      back = λ n m s e. rw e (back t n s m);
     }
   where
     sound : nonnegF (comesTo (trackRun (t .track)) secs) ≡ true
@@ -130,3 +126,6 @@ claim calls secs room a =
     let t = after empty calls in
     let h = seek-taken t secs room a in
     rw (seek-out t secs room h) (sought-is calls t secs room (own-builds empty empty calls empty-kept empty-kept same-refl) h)
+
+pub places-agree : PlacesAgree
+places-agree calls n room m s a = claim calls (elapsedOf n) room a .back n m s refl

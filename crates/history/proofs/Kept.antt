@@ -1,12 +1,12 @@
 -- Every call keeps the invariant.
-use mathlib.Core.Path.{_≡_, refl, sym, ap, _∙_, subst}
-use mathlib.Core.Bool.{Bool, true, false}
+use mathlib.Core.Path.{_≡_, refl, sym, _∙_, subst}
+use mathlib.Core.Bool.{true, false}
 use mathlib.Core.List.{List, [], _∷_, _++_, map}
-use Prim.Native.Nat.{ℕ, zero, suc, _≤_}
+use Prim.Native.Nat.{ℕ, zero, suc}
 use native.Mathlib.Omega.{arith}
-use lib.ListN.{length, getD, length-set, length-replicate}
+use lib.ListN.{getD, length-set, length-replicate}
 use lib.Ieee.{Float, binary32, add, ofBits}
-use Rattle.float32.specs.Helpers.{zeroF, maxF, nonnegF, oneF}
+use Rattle.float32.specs.Helpers.{nonnegF}
 use Rattle.float32.proofs.Nonneg.{zero-nonneg, max-zero-nonneg}
 use Rattle.steps.specs.declared.Entry.{Entry}
 use Rattle.steps.specs.Times.{maxEntries}
@@ -15,19 +15,19 @@ use Rattle.label.specs.declared.Found.the-variants.{At as FoundAt, Nothing}
 use Rattle.label.specs.Label.{firstWith, firstLike, labelOf}
 use Rattle.track.specs.declared.track.Track.{Track}
 use Rattle.track.specs.Tracks.{live, trackBase, blank, emptyTrack}
-use Rattle.track.specs.Calls.{TrackCall, Looping, trackStep}
+use Rattle.track.specs.Calls.{TrackCall, trackStep}
 use Rattle.timeline.specs.declared.timeline.At.{At}
 use Rattle.timeline.specs.declared.timeline.At.the-variants.{Absolute, Start, End, Label as Labeled, Offset}
 use Rattle.timeline.specs.declared.timeline.Timeline.{Timeline}
-use Rattle.timeline.specs.Placements.{empty, blankLabel, liveLabels, startFound, namedStart, resolveStart, newEntry, grown}
-use Rattle.timeline.specs.Calls.{Call, Add, AddBoxed, AddAtLabel, On, Out, addedAt, withTrack, step, after}
+use Rattle.timeline.specs.Placements.{empty, blankLabel, liveLabels, startFound, namedStart, resolveStart, newEntry}
+use Rattle.timeline.specs.Calls.{Call, On, Out, addedAt, withTrack, step, after}
 use Rattle.history.specs.Entries.{Span, spanOf, spans}
 use Rattle.history.specs.Invariant.{SoundSpan, AllSound, Invariant, Kept}
 use Rattle.history.specs.Claim.{builds}
 use Rattle.history.proofs.Runs.{base-nonneg}
 use Rattle.history.proofs.Added.{newSpan, grown-spans, added-by}
 use Rattle.history.proofs.Calls.{call-by}
-use Rattle.history.proofs.Stays.{SoundClock, Stays, stays}
+use Rattle.history.proofs.Stays.{Stays, stays}
 
 -- ---- sound spans
 sound-append : (ss : List Span) (s : Span) → AllSound ss → SoundSpan s → AllSound (ss ++ (s ∷ []))

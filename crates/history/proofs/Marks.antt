@@ -1,16 +1,15 @@
 -- What the steps of a call leave of a track: its marks are those of the steps, and everything else of its entries stays.
-use mathlib.Core.Path.{_≡_, refl, sym, ap, _∙_}
+use mathlib.Core.Path.{_≡_, refl, ap, _∙_}
 use mathlib.Core.Bool.{Bool}
-use mathlib.Core.List.{List, [], _∷_, _++_, map}
+use mathlib.Core.List.{List, [], _∷_, map}
 use Prim.Native.Nat.{ℕ, zero, suc}
 use native.Mathlib.Omega.{arith}
-use lib.ListN.{length, take, drop}
-use lib.Ieee.{Float}
+use lib.ListN.{length, take}
 use Rattle.steps.specs.declared.Entry.{Entry}
 use Rattle.steps.specs.declared.Stepped.{Stepped}
 use Rattle.track.specs.declared.clock.Clock.{Clock}
 use Rattle.track.specs.declared.track.Track.{Track}
-use Rattle.track.specs.Tracks.{live, marked, marks, over, moved}
+use Rattle.track.specs.Tracks.{live, marks, over, moved}
 use Rattle.track.proofs.Written.{length-marks}
 use Rattle.history.specs.Entries.{Span, spanOf}
 

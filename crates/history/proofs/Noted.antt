@@ -1,12 +1,12 @@
 -- What a noting call leaves is synchronised.
 use mathlib.Core.Path.{_≡_, refl, sym, ap, _∙_, subst}
-use mathlib.Core.Bool.{Bool, true, false, not, _&&_, cond, true≢false, false≢true}
+use mathlib.Core.Bool.{Bool, true, false, not, _&&_, true≢false, false≢true}
 use mathlib.Core.List.{List}
 use Prim.Native.Nat.{ℕ}
 use lib.Dec.{eqb}
 use lib.Ieee.{Float, lt, le, eq}
 use borrow.Author.Tests.{not-true}
-use Rattle.float32.specs.Helpers.{zeroF, minF, finiteF, nonnegF}
+use Rattle.float32.specs.Helpers.{zeroF, minF, finiteF}
 use Rattle.float32.proofs.Order.{le-of-eq, not-lt-of-le}
 use Rattle.refusal.specs.Refusal.{accepted}
 use Rattle.tween.specs.declared.loop_mode.Loop.{Loop}
@@ -21,17 +21,17 @@ use Rattle.track.specs.Updates.{syncedTo, advanced, playing, nextElapsed}
 use Rattle.track.specs.Calls.{Room, TrackOut, TrackCall, Looping, SetTimeScale, Play, Pause, Resume, Reset, Seek, SeekAbs, Update, Preview, soughtTo, advancedTo, updatedIn, updated, trackStep}
 use Rattle.timeline.specs.declared.timeline.Timeline.{Timeline}
 use Rattle.timeline.specs.Placements.{empty}
-use Rattle.timeline.specs.Calls.{Call, Add, AddBoxed, AddAtLabel, On, step, after}
+use Rattle.timeline.specs.Calls.{Call, On, step, after}
 use Rattle.history.specs.Entries.{SameEntries}
 use Rattle.history.specs.Invariant.{NotBelow, Invariant}
-use Rattle.history.specs.Claim.{builds, isAccepted, isOnce, notes, Noted, stateOf}
+use Rattle.history.specs.Claim.{isAccepted, isOnce, notes, Noted, stateOf}
 use Rattle.history.proofs.Runs.{next-not-below}
 use Rattle.history.proofs.Spans.{bases}
-use Rattle.history.proofs.Stays.{SoundClock}
+use Rattle.history.proofs.Clocks.{SoundClock}
 use Rattle.history.proofs.Kept.{empty-kept, after-kept}
 use Rattle.history.proofs.Calls.{call-by, and-left, and-right}
 use Rattle.history.proofs.Built.{plays-same}
-use Rattle.history.proofs.Sending.{soughtAll, seek-room, seek-is, update-is}
+use Rattle.history.proofs.Sending.{seek-room, seek-is, update-is}
 use Rattle.history.proofs.Synced.{Synced, sought-synced, advanced-synced, bounded-kept, endless-kept}
 
 -- ---- an update while Playing, in a mode other than Once

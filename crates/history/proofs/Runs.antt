@@ -1,12 +1,12 @@
 -- The base and the run are no NaN and not below 0; where a seek and an update come to in a run.
-use mathlib.Core.Path.{_≡_, refl, sym, ap, _∙_}
-use mathlib.Core.Bool.{Bool, true, false, cond, true≢false, false≢true}
+use mathlib.Core.Path.{_≡_, refl, sym, _∙_}
+use mathlib.Core.Bool.{Bool, true, false, cond, true≢false}
 use mathlib.Core.List.{List, map}
-use Prim.Native.Nat.{ℕ, _<_}
+use Prim.Native.Nat.{ℕ}
 use native.Mathlib.Omega.{arith}
 use lib.Ieee.{Float, nan, inf, fin, Format, binary32, add, mul, lt, le, eq, isNan}
-use Rattle.float32.specs.Helpers.{zeroF, infinityF, maxF, minF, finiteF, nonnegF}
-use Rattle.float32.proofs.Order.{le-of-not-lt, le-infinity, not-lt-of-le, eq-of-le, eq-self}
+use Rattle.float32.specs.Helpers.{zeroF, maxF, minF, finiteF, nonnegF}
+use Rattle.float32.proofs.Order.{le-of-not-lt, le-infinity, eq-of-le}
 use Rattle.float32.proofs.MaxMin.{min-all, min-le, min-same}
 use Rattle.float32.proofs.Nonneg.{add-nonneg, mul-nonneg, times-count, nonneg-no-nan, zero-nonneg, zero-le-nonneg, max-zero-nonneg, max-zero-same, fold-max-zero-nonneg, min-nonneg, nonneg-infinite}
 use Rattle.tween.specs.declared.loop_mode.Loop.{Loop}

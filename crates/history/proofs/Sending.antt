@@ -1,6 +1,6 @@
 -- Where play, reset, the seeks and update are accepted, and what they then leave.
-use mathlib.Core.Path.{_≡_, refl, sym, ap, _∙_}
-use mathlib.Core.Bool.{Bool, true, false, _||_, cond, false≢true}
+use mathlib.Core.Path.{_≡_, refl, sym, _∙_}
+use mathlib.Core.Bool.{Bool, true, false, false≢true}
 use mathlib.Core.List.{List, [], map}
 use Prim.Native.Nat.{ℕ}
 use lib.Dec.{eqb, ltb}
@@ -14,9 +14,9 @@ use Rattle.steps.specs.Rows.{ruled}
 use Rattle.track.specs.declared.clock.Clock.{Clock}
 use Rattle.track.specs.declared.track.Track.{Track}
 use Rattle.track.specs.Clocks.{seekTo, sought}
-use Rattle.track.specs.Tracks.{live, trackBase, trackRun, shareOf, rowsOf, moved}
+use Rattle.track.specs.Tracks.{live, trackBase, trackRun, rowsOf, moved}
 use Rattle.track.specs.Updates.{repliesBad}
-use Rattle.track.specs.Calls.{Room, TrackOut, Seek, SeekAbs, Update, silent, short, unless, sent, soughtTo, updated, updatedWith, trackStep}
+use Rattle.track.specs.Calls.{Room, TrackOut, short, unless, sent, soughtTo, updated, updatedWith}
 
 -- what a rule sends, with room enough
 abbrev pub sentAll : Track → Clock → Rule → TrackOut

@@ -1,6 +1,6 @@
 -- What depends on the entries' starts and durations alone, whatever the marks; and on the labels' texts alone.
 use mathlib.Core.Path.{_≡_, refl, sym, ap, ap₂, _∙_}
-use mathlib.Core.Bool.{Bool, true, false, cond}
+use mathlib.Core.Bool.{false, cond}
 use mathlib.Core.List.{List, [], _∷_, map, foldl}
 use Prim.Native.Nat.{ℕ, _+_}
 use lib.Dec.{ltb}
@@ -9,7 +9,6 @@ use lib.Ieee.{Float, binary32, add}
 use Rattle.float32.specs.Helpers.{zeroF, maxF}
 use Rattle.tween.specs.declared.loop_mode.Loop.{Loop}
 use Rattle.steps.specs.declared.Entry.{Entry}
-use Rattle.steps.specs.declared.Stepped.{Stepped}
 use Rattle.steps.specs.Times.{endAt, baseOf, runOf, localTime}
 use Rattle.steps.specs.Rows.{synced}
 use Rattle.walk.proofs.Ends.{base-of-ends}
@@ -22,7 +21,7 @@ use Rattle.timeline.specs.declared.timeline.At.{At}
 use Rattle.timeline.specs.declared.timeline.At.the-variants.{Absolute, Start, End, Label as Labeled, Offset}
 use Rattle.timeline.specs.declared.timeline.Timeline.{Timeline}
 use Rattle.timeline.specs.Placements.{liveLabels, startFound, namedStart, resolveStart}
-use Rattle.history.specs.Entries.{Span, spanOf, spans, texts, SameEntries}
+use Rattle.history.specs.Entries.{Span, spanOf, spans, SameEntries}
 
 -- ---- lists of entries with the same spans
 -- the entry of a span, not done
@@ -79,12 +78,6 @@ module _ (ls ms : List Label) (same : map text ls ≡ map text ms) where
   like-same k = ap₂ (λ (n : ℕ) (f : Found). cond (ltb k n) f Nothing) count-same (first-same (text (getD ls k noLabel)) ∙ ap (λ (x : List ℕ). firstWith x ms) (text-same k))
 
 -- ---- timelines of the same entries and loop mode
-pub same-refl : {t : Timeline} → SameEntries t t
-same-refl = record { labels = refl; spans = refl; mode = refl }
-
-pub same-trans : {t u v : Timeline} → SameEntries t u → SameEntries u v → SameEntries t v
-same-trans a b = record { labels = a .labels ∙ b .labels; spans = a .spans ∙ b .spans; mode = a .mode ∙ b .mode }
-
 module _ {t u : Timeline} (s : SameEntries t u) where
   pub bases : trackBase (t .track) ≡ trackBase (u .track)
   bases = base-same (live (t .track)) (live (u .track)) (s .spans)
@@ -114,3 +107,10 @@ module _ {t u : Timeline} (s : SameEntries t u) where
   starts End = bases
   starts (Labeled k) = found-starts (firstLike k (liveLabels t)) ∙ ap (startFound u) (like-same (liveLabels t) (liveLabels u) (s .labels) k)
   starts (Offset offset) = ap (λ (b : Float). maxF (add binary32 b offset) zeroF) bases
+
+-- the same as itself, and through a third
+pub same-refl : {t : Timeline} → SameEntries t t
+same-refl = record { labels = refl; spans = refl; mode = refl }
+
+pub same-trans : {t u v : Timeline} → SameEntries t u → SameEntries u v → SameEntries t v
+same-trans a b = record { labels = a .labels ∙ b .labels; spans = a .spans ∙ b .spans; mode = a .mode ∙ b .mode }

@@ -1,117 +1,33 @@
 -- A call on what plays, other than `looping`, keeps the entries but for their marks, the loop mode, and a sound clock.
-use mathlib.Core.Path.{_≡_, refl, ap}
-use mathlib.Core.Bool.{Bool, true, false, _||_, cond, true≢false}
-use mathlib.Core.List.{List, [], _∷_, map}
-use Prim.Native.Nat.{ℕ, suc}
+use mathlib.Core.Path.{_≡_, refl}
+use mathlib.Core.Bool.{Bool, true, false, true≢false}
+use mathlib.Core.List.{List, map}
+use Prim.Native.Nat.{ℕ}
 use lib.Dec.{ltb}
-use lib.ListN.{length, drop, length-map}
-use lib.Ieee.{Float, eq, le}
-use Rattle.float32.specs.Helpers.{zeroF, minF, nonnegF}
-use Rattle.float32.proofs.Nonneg.{zero-nonneg, max-zero-nonneg}
+use lib.ListN.{length, length-map}
+use lib.Ieee.{Float}
 use Rattle.refusal.specs.Refusal.{rowsTooShort, badReplies, listTooShort}
-use Rattle.tween.specs.declared.loop_mode.Loop.{Loop}
-use Rattle.tween.specs.declared.loop_mode.Loop.the-variants.{Once, Times, Forever, PingPong, PingPongTimes}
-use Rattle.steps.specs.declared.Entry.{Entry}
 use Rattle.steps.specs.declared.Stepped.{Stepped}
 use Rattle.steps.specs.declared.Rule.{Rule}
-use Rattle.steps.specs.declared.Rule.the-variants.{Keep, Clear, Sync, Restart}
-use Rattle.steps.specs.Times.{localTime, runOf}
-use Rattle.steps.specs.Rows.{ticked, ruled}
+use Rattle.steps.specs.declared.Rule.the-variants.{Keep, Clear, Sync}
+use Rattle.steps.specs.Times.{localTime}
+use Rattle.steps.specs.Rows.{ruled}
 use Rattle.track.specs.declared.clock.Clock.{Clock}
 use Rattle.track.specs.declared.clock.TimelineState.{TimelineState}
 use Rattle.track.specs.declared.clock.TimelineState.the-variants.{Idle, Playing, Paused, Completed}
 use Rattle.track.specs.declared.track.Track.{Track}
-use Rattle.track.specs.Clocks.{isCompleted, withState, scaled, cleared, started, playState, played, pausedState, paused, resumedState, resumed, seekTo, sought}
+use Rattle.track.specs.Clocks.{scaled, cleared, played, pausedState, paused, resumedState, resumed, seekTo, sought}
 use Rattle.track.specs.Tracks.{live, trackBase, trackRun, shareOf, moved}
-use Rattle.track.specs.Updates.{repliesBad, ticks, Advance, tickedTo, syncedTo, advanced, resting, playing, nextElapsed, advancedClock}
-use Rattle.track.specs.Calls.{Room, TrackCall, Looping, SetTimeScale, Play, Pause, Resume, Reset, Seek, SeekAbs, Update, Preview, TrackOut, short, unless, sent, playRule, soughtTo, advancedTo, rested, updatedIn, updated, updatedWith, previewed, withClock, trackStep}
-use Rattle.timeline.specs.Calls.{Call, On}
+use Rattle.track.specs.Updates.{repliesBad, Advance, playing, advancedClock}
+use Rattle.track.specs.Calls.{Room, TrackCall, Looping, SetTimeScale, Play, Pause, Resume, Reset, Seek, SeekAbs, Update, Preview, TrackOut, short, unless, sent, soughtTo, advancedTo, rested, updatedIn, updated, updatedWith, previewed, withClock, trackStep}
+use Rattle.timeline.specs.Calls.{On}
 use Rattle.history.specs.Entries.{spanOf}
-use Rattle.history.specs.Invariant.{NotBelow}
 use Rattle.history.specs.Claim.{builds}
-use Rattle.history.proofs.Runs.{base-nonneg, run-nonneg, seek-nonneg, next-not-below, min-not-below}
+use Rattle.history.proofs.Runs.{base-nonneg, run-nonneg, seek-nonneg}
 use Rattle.history.proofs.Marks.{moved-long, moved-spans}
+use Rattle.history.proofs.Clocks.{SoundClock, state-sound, scaled-sound, cleared-sound, sought-sound, advanced-sound, played-sound}
+use Rattle.history.proofs.Advances.{SoundAdvance, playing-advance}
 
--- ---- clocks
-pub record SoundClock (c : Clock) : Type 0 where
-  pub elapsed : NotBelow (c .elapsed)
-  pub scale : nonnegF (c .«time_scale») ≡ true
-
-module _ (c : Clock) (h : SoundClock c) where
-  state-sound : (s : TimelineState) → SoundClock (withState c s)
-  unfolding withState
-  state-sound s = record { elapsed = h .elapsed; scale = h .scale }
-
-  scaled-sound : (scale : Float) → SoundClock (scaled c scale)
-  unfolding scaled
-  scaled-sound scale = record { elapsed = h .elapsed; scale = max-zero-nonneg scale }
-
-  cleared-sound : SoundClock (cleared c)
-  unfolding cleared
-  cleared-sound = record { elapsed = λ p. zero-nonneg; scale = h .scale }
-
-  started-sound : SoundClock (started c)
-  unfolding started
-  started-sound = go (isCompleted (c .state))
-    where
-      go : (b : Bool) → SoundClock (cond b (cleared c) c)
-      go true = cleared-sound
-      go false = h
-
-  sought-sound : (total elapsed : Float) → nonnegF elapsed ≡ true → SoundClock (sought c total elapsed)
-  unfolding sought
-  sought-sound total elapsed k = record { elapsed = λ p. k; scale = h .scale }
-
-  advanced-sound : (elapsed : Float) (ended : Bool) → NotBelow elapsed → SoundClock (advancedClock c elapsed ended)
-  unfolding advancedClock
-  advanced-sound elapsed ended k = record { elapsed = k; scale = h .scale }
-
-played-sound : (c : Clock) → SoundClock c → (base : Float) → SoundClock (played c base)
-unfolding played
-played-sound c h base = state-sound (started c) (started-sound c h) (playState base)
-
--- ---- what an update comes to
-record SoundAdvance (k : Track) (a : Advance) : Type 0 where
-  each : length (a .steps) ≡ length (live k)
-  elapsed : NotBelow (a .elapsed)
-
-ticks-length : (prev next : Float) (es : List Entry) (rs : List ℕ) → length (ticks prev next es rs) ≡ length es
-unfolding ticks
-ticks-length prev next [] rs = refl
-ticks-length prev next (e ∷ es) rs = ap suc (ticks-length prev next es (drop 1 rs))
-
-module _ (k : Track) (next : Float) (h : NotBelow next) where
-  ticked-advance : (prev : Float) (rs : List ℕ) → SoundAdvance k (tickedTo (live k) (trackBase k) prev next rs)
-  unfolding tickedTo
-  ticked-advance prev rs =
-      record {
-        each = ticks-length (minF prev (trackBase k)) (minF next (trackBase k)) (live k) rs;
-        elapsed = min-not-below next (trackBase k) h (base-nonneg (live k));
-      }
-
-  synced-advance : (mode : Loop) (prev elapsed : Float) (ended : Bool) → NotBelow elapsed → SoundAdvance k (syncedTo mode (live k) (trackBase k) prev next elapsed ended)
-  unfolding syncedTo
-  synced-advance mode prev elapsed ended p = record { each = length-map (live k) _; elapsed = p }
-
-  bounded : (mode : Loop) → NotBelow (minF next (runOf mode (trackBase k)))
-  bounded mode = min-not-below next (runOf mode (trackBase k)) h (run-nonneg mode (trackBase k) (base-nonneg (live k)))
-
-  advance : (mode : Loop) (prev : Float) (rs : List ℕ) → SoundAdvance k (advanced mode (live k) (trackBase k) prev next rs)
-  advance Once prev rs = ticked-advance prev rs
-  advance (Times n) prev rs = synced-advance (Times n) prev _ _ (bounded (Times n))
-  advance Forever prev rs = synced-advance Forever prev next false h
-  advance PingPong prev rs = synced-advance PingPong prev next false h
-  advance (PingPongTimes n) prev rs = synced-advance (PingPongTimes n) prev _ _ (bounded (PingPongTimes n))
-
-playing-advance : (k : Track) → SoundClock (k .clock) → (dt : Float) (rs : List ℕ) → SoundAdvance k (playing k dt rs)
-unfolding playing
-playing-advance k h dt rs = go (eq (trackBase k) zeroF)
-  where
-    go : (b : Bool) → SoundAdvance k (cond b (resting (live k) (k .clock .elapsed) true) (advanced (k .looping) (live k) (trackBase k) (k .clock .elapsed) (nextElapsed (k .clock) dt) rs))
-    go true = record { each = length-map (live k) _; elapsed = h .elapsed }
-    go false = advance k (nextElapsed (k .clock) dt) (next-not-below (k .clock) dt (h .elapsed) (h .scale)) (k .looping) (k .clock .elapsed) rs
-
--- ---- calls
 -- the track k′ that a call on k leaves
 pub record Stays (k k′ : Track) : Type 0 where
   pub count : k′ .count ≡ k .count

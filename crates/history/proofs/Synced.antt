@@ -1,34 +1,27 @@
 -- A track whose marks are those of synchronising it at its elapsed time, and whose elapsed time a seek keeps: what noting calls leave.
-use mathlib.Core.Path.{_≡_, refl, sym, ap, ap₂, _∙_, subst}
-use mathlib.Core.Bool.{Bool, true, false, not, _&&_, cond, true≢false, false≢true}
+use mathlib.Core.Path.{_≡_, refl, sym, ap, _∙_}
+use mathlib.Core.Bool.{Bool, true, false}
 use mathlib.Core.List.{List, map, map-map}
-use Prim.Native.Nat.{ℕ}
-use lib.ListN.{length-map}
-use lib.Ieee.{Float, eq, le, isNan}
-use Rattle.float32.specs.Helpers.{zeroF, minF, finiteF, nonnegF}
+use lib.ListN.{length, length-map}
+use lib.Ieee.{Float, isNan}
+use Rattle.float32.specs.Helpers.{minF, finiteF, nonnegF}
 use Rattle.float32.proofs.MaxMin.{min-le}
 use Rattle.float32.proofs.Nonneg.{nonneg-no-nan}
-use Rattle.tween.specs.declared.loop_mode.Loop.{Loop}
-use Rattle.tween.specs.declared.loop_mode.Loop.the-variants.{Once, Times, Forever, PingPong, PingPongTimes}
 use Rattle.steps.specs.declared.Entry.{Entry}
 use Rattle.steps.specs.declared.Stepped.{Stepped}
 use Rattle.steps.specs.Times.{runOf, localTime}
 use Rattle.steps.specs.Rows.{synced}
 use Rattle.track.specs.declared.clock.Clock.{Clock}
-use Rattle.track.specs.declared.clock.TimelineState.{TimelineState}
-use Rattle.track.specs.declared.clock.TimelineState.the-variants.{Idle, Playing, Paused, Completed}
 use Rattle.track.specs.declared.track.Track.{Track}
-use Rattle.track.specs.Clocks.{isPlaying, seekTo, sought}
+use Rattle.track.specs.Clocks.{seekTo, sought}
 use Rattle.track.specs.Tracks.{live, trackBase, trackRun, moved}
-use Rattle.track.specs.Updates.{syncedTo, advanced, resting, playing, nextElapsed, advancedClock}
-use Rattle.track.specs.Calls.{advancedTo, updatedIn}
+use Rattle.track.specs.Updates.{syncedTo, advancedClock}
+use Rattle.track.specs.Calls.{advancedTo}
 use Rattle.history.specs.Entries.{spanOf}
 use Rattle.history.specs.Invariant.{NotBelow}
-use Rattle.history.specs.Claim.{isOnce}
-use Rattle.history.proofs.Runs.{base-nonneg, run-nonneg, seek-nonneg, seek-most, seek-stays, endless-most, next-not-below, min-not-below}
+use Rattle.history.proofs.Runs.{base-nonneg, run-nonneg, seek-nonneg, seek-most, seek-stays, endless-most, min-not-below}
 use Rattle.history.proofs.Spans.{map-same, base-same}
 use Rattle.history.proofs.Marks.{moved-spans, moved-done}
-use Rattle.history.proofs.Stays.{SoundClock}
 use Rattle.history.proofs.Sending.{soughtClock, soughtAll}
 
 -- the marks that synchronising at the local time t sets
@@ -43,18 +36,20 @@ marks-at-same t es fs s = map-same es fs s (λ (e : Entry). synced t e .done) (�
 abbrev pub localAt : Track → Float → Float
 localAt k elapsed = localTime (k .looping) (trackBase k) elapsed
 
+-- a seek to this elapsed time stays at it
+abbrev Keeps : Track → Float → Type 0
+Keeps k elapsed = isNan elapsed ≡ false → seekTo (trackRun k) elapsed ≡ elapsed
+
 pub record Synced (k : Track) : Type 0 where
   pub marks : map (λ (e : Entry). e .done) (live k) ≡ marksAt (localAt k (k .clock .elapsed)) (live k)
-  pub stays : isNan (k .clock .elapsed) ≡ false → seekTo (trackRun k) (k .clock .elapsed) ≡ k .clock .elapsed
+  pub stays : Keeps k (k .clock .elapsed)
 
-abbrev kept : Track → Float → Type 0
-kept k elapsed = isNan elapsed ≡ false → seekTo (trackRun k) elapsed ≡ elapsed
-
+-- ---- a track that is synchronised where the clock c stands
 module _ (k : Track) (c : Clock) where
   abbrev steps : List Stepped
   steps = map (synced (localAt k (c .elapsed))) (live k)
 
-  each : lib.ListN.length steps ≡ lib.ListN.length (live k)
+  each : length steps ≡ length (live k)
   each = length-map (live k) (synced (localAt k (c .elapsed)))
 
   -- the marks that it leaves
@@ -64,7 +59,7 @@ module _ (k : Track) (c : Clock) where
   sync-base : trackBase (moved k c steps) ≡ trackBase k
   sync-base = base-same (live (moved k c steps)) (live k) (moved-spans k c steps each)
 
-  sync-synced : kept k (c .elapsed) → Synced (moved k c steps)
+  sync-synced : Keeps k (c .elapsed) → Synced (moved k c steps)
   sync-synced h =
       record {
         marks =
@@ -73,23 +68,23 @@ module _ (k : Track) (c : Clock) where
         stays = λ p. ap (λ (b : Float). seekTo (runOf (k .looping) b) (c .elapsed)) sync-base ∙ h p;
       }
 
+-- ---- by a seek, and by an update in a mode other than Once
 module _ (k : Track) where
   pub run-sound : nonnegF (trackRun k) ≡ true
   run-sound = run-nonneg (k .looping) (trackBase k) (base-nonneg (live k))
 
-  -- a seek
   pub sought-synced : (secs : Float) → Synced (soughtAll k secs .track)
   unfolding sought
   sought-synced secs = sync-synced k (soughtClock k secs) (λ p. seek-stays (trackRun k) run-sound (seekTo (trackRun k) secs) (seek-nonneg (trackRun k) run-sound secs) (seek-most (trackRun k) run-sound secs))
 
-  -- an update in a mode other than Once, to a place that a seek keeps
-  pub advanced-synced : (prev next elapsed : Float) (ended : Bool) → kept k elapsed → Synced (advancedTo k (syncedTo (k .looping) (live k) (trackBase k) prev next elapsed ended) .track)
+  -- an update to a place that a seek keeps
+  pub advanced-synced : (prev next elapsed : Float) (ended : Bool) → Keeps k elapsed → Synced (advancedTo k (syncedTo (k .looping) (live k) (trackBase k) prev next elapsed ended) .track)
   unfolding advancedTo syncedTo advancedClock
   advanced-synced prev next elapsed ended h = sync-synced k (advancedClock (k .clock) elapsed ended) h
 
-  pub bounded-kept : (next : Float) → NotBelow next → kept k (minF next (trackRun k))
+  pub bounded-kept : (next : Float) → NotBelow next → Keeps k (minF next (trackRun k))
   bounded-kept next h p =
       seek-stays (trackRun k) run-sound (minF next (trackRun k)) (min-not-below next (trackRun k) h run-sound p) (min-le next (trackRun k) (nonneg-no-nan (trackRun k) run-sound))
 
-  pub endless-kept : (next : Float) → NotBelow next → finiteF (trackRun k) ≡ false → kept k next
+  pub endless-kept : (next : Float) → NotBelow next → finiteF (trackRun k) ≡ false → Keeps k next
   endless-kept next h e p = seek-stays (trackRun k) run-sound next (h p) (endless-most (trackRun k) run-sound next e p)

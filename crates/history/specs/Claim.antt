@@ -1,5 +1,5 @@
--- The claim about whole lists of calls (paper 01, "Agreed between us", point 3). Its proof is `claim` of proofs/Claim.antt.
-use Prim.Native.Nat.{ℕ}
+-- The claim about whole lists of calls (paper 01, "Agreed between us"): `Claim`, at the end, says it in words. Its proof is `claim` of
+-- proofs/Claim.antt.
 use mathlib.Core.Path.{_≡_}
 use mathlib.Core.Bool.{Bool, true, false, not, _&&_, cond}
 use mathlib.Core.List.{List, [], _∷_}
@@ -13,7 +13,7 @@ use Rattle.track.specs.declared.clock.TimelineState.{TimelineState}
 use Rattle.track.specs.declared.clock.TimelineState.the-variants.{Idle, Playing, Paused, Completed}
 use Rattle.track.specs.Clocks.{isPlaying}
 use Rattle.track.specs.Tracks.{trackBase, trackRun}
-use Rattle.track.specs.Calls.{Room, TrackCall, Looping, SetTimeScale, Play, Pause, Resume, Reset, Seek, SeekAbs, Update, Preview}
+use Rattle.track.specs.Calls.{Room, Looping, SetTimeScale, Play, Pause, Resume, Reset, Seek, SeekAbs, Update, Preview}
 use Rattle.timeline.specs.declared.timeline.Timeline.{Timeline}
 use Rattle.timeline.specs.Placements.{empty}
 use Rattle.timeline.specs.Calls.{Call, Add, AddBoxed, AddAtLabel, On, Out, step, after}
@@ -94,7 +94,7 @@ notes t (On (Update dt replies list room)) =
     isAccepted t (On (Update dt replies list room)) && (isPlaying (stateOf t) && not (isOnce (t .track .looping)))
 notes t (On (Preview dt room)) = false
 
--- the timeline right after such a call, at the end of any list; its place can be sought again where the base is above 0 and the place is no NaN
+-- n is the timeline right after such a call, after any list; the base is above 0, and the elapsed time is no NaN
 pub record Noted (n : Timeline) : Type 0 where
   pub before : List Call
   pub call : Call
@@ -105,13 +105,17 @@ pub record Noted (n : Timeline) : Type 0 where
 
 -- ---- what is claimed of a seek
 
--- two seeks give the same elapsed time, done marks and rows; a Float has one NaN, so NaN equals NaN
+-- the same elapsed time and done marks; a Float has one NaN, so NaN equals NaN
+pub record SamePlace (t u : Timeline) : Type 0 where
+  pub elapsed : elapsedOf t ≡ elapsedOf u
+  pub marks : doneMarks t ≡ doneMarks u
+
+-- two seeks come to the same place, and send each entry the same row
 pub record Alike (o o′ : Out) : Type 0 where
-  pub elapsed : elapsedOf (o .timeline) ≡ elapsedOf (o′ .timeline)
-  pub marks : doneMarks (o .timeline) ≡ doneMarks (o′ .timeline)
+  pub place : SamePlace (o .timeline) (o′ .timeline)
   pub rows : o .rows ≡ o′ .rows
 
--- the state of a timeline that was sought to before its end
+-- the state after a seek that does not reach the end
 abbrev pub goingOn : TimelineState → TimelineState
 goingOn Idle = Idle
 goingOn Playing = Playing
@@ -121,24 +125,42 @@ goingOn Completed = Playing
 abbrev pub seekTo : Float → Room → Call
 seekTo secs room = On (SeekAbs secs room)
 
--- What the seek to secs gives, o, on the timeline t that the list of calls made
+-- what the seek to secs gives, o, on the timeline t that the list of calls made
 pub record Sought (calls : List Call) (t : Timeline) (secs : Float) (room : Room) (o : Out) : Type 0 where
-  -- 1. what every newly built timeline of the same entries and mode gives, which takes the seek too; and the list's own building calls make one
-  pub as-new : (u : Timeline) → NewlyBuilt u → SameEntries t u → (isAccepted u (seekTo secs room) ≡ true) × ((room′ : Room) → isAccepted u (seekTo secs room′) ≡ true → Alike o (step u (seekTo secs room′)))
+  -- 1. as every newly built timeline; and the list's own building calls make one
+  pub as-new : (u : Timeline) → NewlyBuilt u → SameEntries t u
+      → (isAccepted u (seekTo secs room) ≡ true) × ((room′ : Room) → isAccepted u (seekTo secs room′) ≡ true → Alike o (step u (seekTo secs room′)))
   pub own-builds : AllBuild empty (ownBuild empty calls)
   pub own-same : SameEntries t (after empty (ownBuild empty calls))
   -- 2. no NaN, at least 0, at most the run
   pub number : isNan (elapsedOf (o .timeline)) ≡ false
   pub least : le zeroF (elapsedOf (o .timeline)) ≡ true
   pub most : le (elapsedOf (o .timeline)) (trackRun (t .track)) ≡ true
-  -- 3. Completed exactly where the run is finite and reached; otherwise the state before, Completed becoming Playing
+  -- 3. Completed exactly at the end of a finite run
   pub state : stateOf (o .timeline) ≡ cond (finiteF (trackRun (t .track)) && eq (trackRun (t .track)) (elapsedOf (o .timeline))) Completed (goingOn (stateOf t))
   -- 4. noted places come back
-  pub back : (n : Timeline) → Noted n → SameEntries t n → secs ≡ elapsedOf n → (elapsedOf (o .timeline) ≡ elapsedOf n) × (doneMarks (o .timeline) ≡ doneMarks n)
+  pub back : (n : Timeline) → Noted n → SameEntries t n → secs ≡ elapsedOf n → SamePlace (o .timeline) n
 
--- what is claimed of the timeline t that the list made, for every second and all slices
+-- what is claimed of the timeline t that the list made: every accepted seek gives that
 abbrev pub Seeks : List Call → Timeline → Type 0
 Seeks calls t = (secs : Float) (room : Room) → isAccepted t (seekTo secs room) ≡ true → Sought calls t secs room (step t (seekTo secs room))
 
+-- Take any list of calls, with any arguments and any lent slices, refused calls included, each on the timeline that the one before left,
+-- from the empty timeline on. After it, one accepted absolute seek to any second
+-- 1. gives the elapsed time, the done marks and the whole row of each entry that every newly built timeline of the same entries and loop
+--    mode gives, sought to the same second; that seek is accepted with the same slices, and gives the same with any others that it is
+--    accepted with. And there is such a timeline: the list's own calls that add an entry or set the loop mode, as far as accepted, make one;
+-- 2. leaves an elapsed time that is no NaN, at least 0 and at most the run;
+-- 3. leaves the state Completed exactly where the run is finite and the elapsed time equals it; elsewhere it leaves the state of before,
+--    but Playing where that was Completed;
+-- 4. brings noted places back. A place is noted, in any such list, right after an accepted seek of either kind, or right after an accepted
+--    update while Playing in a mode other than Once, where the base is above 0 and the elapsed time is no NaN. A seek to it, on any timeline
+--    of the same entries and loop mode, leaves exactly the elapsed time and the marks that were noted.
 abbrev pub Claim : Type 0
 Claim = (calls : List Call) → Seeks calls (after empty calls)
+
+-- The steward's question. Two timelines have any histories, and the same entries and loop mode. One notes its place, the other takes a
+-- seek to it. Then both show the same elapsed time and the same marks.
+abbrev pub PlacesAgree : Type 0
+PlacesAgree = (calls : List Call) (n : Timeline) (room : Room) → Noted n → SameEntries (after empty calls) n
+    → isAccepted (after empty calls) (seekTo (elapsedOf n) room) ≡ true → SamePlace (step (after empty calls) (seekTo (elapsedOf n) room) .timeline) n

@@ -1,5 +1,5 @@
 -- What holds of every timeline that calls make from the empty one. Definitions only; the proof is `kept` of proofs/Invariant.antt.
-use Prim.Native.Nat.{ℕ, _≤_}
+use Prim.Native.Nat.{_≤_}
 use mathlib.Core.Path.{_≡_}
 use mathlib.Core.Bool.{false, true}
 use mathlib.Core.List.{List, [], _∷_}

@@ -1,5 +1,18 @@
-ghost use Rattle.history.specs.Claim.{Claim};
+// What holds of whole lists of calls on a timeline: claims about the definitions that the calls' contracts cite. There is nothing to run.
+ghost use Rattle.history.specs.Invariant.{Kept};
+ghost use Rattle.history.specs.Claim.{Claim, PlacesAgree};
 
+// Every call keeps the invariant.
+pub fn invariant_kept()
+    ensures { λ r. ⌜ Kept ⌝ }
+{}
+
+// After any list of calls, an accepted seek shows what a newly built timeline shows.
 pub fn claimed()
     ensures { λ r. ⌜ Claim ⌝ }
+{}
+
+// Where one timeline notes its place and another seeks to it, both show the same.
+pub fn places_agree()
+    ensures { λ r. ⌜ PlacesAgree ⌝ }
 {}

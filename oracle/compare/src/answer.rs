@@ -4,7 +4,7 @@
 use crate::record::{Answer, Op, Record};
 use animato_tween::{GridOrigin, StaggerPattern};
 
-const ORIGINS: [GridOrigin; 9] = [
+pub const ORIGINS: [GridOrigin; 9] = [
     GridOrigin::TopLeft,
     GridOrigin::TopRight,
     GridOrigin::BottomLeft,
@@ -17,8 +17,8 @@ const ORIGINS: [GridOrigin; 9] = [
 ];
 
 /// "13: a grid side above 65,535 (far above it Rust's sum may overflow)."
-const GRID_TOO_LARGE: u8 = 13;
-const MAX_SIDE: u32 = 65_535;
+pub const GRID_TOO_LARGE: u8 = 13;
+pub const MAX_SIDE: u32 = 65_535;
 
 pub fn answer(record: &Record) -> Answer {
     let [a, b, c, d, e] = record.operands;

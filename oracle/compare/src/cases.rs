@@ -389,7 +389,7 @@ fn inverse(odd: u32) -> u32 {
 // Random operands
 
 /// An edge, a neighbour of one, any bits, or a number of everyday size.
-fn float(rng: &mut Rng) -> u32 {
+pub fn float(rng: &mut Rng) -> u32 {
     let sign = rng.pick(&[0, 0, SIGN]);
     match rng.below(4) {
         0 => rng.pick(&MAGNITUDES) | sign,
@@ -426,7 +426,7 @@ fn bounded(rng: &mut Rng) -> [u32; 3] {
 }
 
 /// A number of any size, often near a power of two.
-fn word(rng: &mut Rng) -> u32 {
+pub fn word(rng: &mut Rng) -> u32 {
     let power = 1u32 << rng.below(32);
     match rng.below(4) {
         0 => power.wrapping_add(rng.below(9)).wrapping_sub(4),
@@ -436,7 +436,7 @@ fn word(rng: &mut Rng) -> u32 {
     }
 }
 
-fn side(rng: &mut Rng) -> u32 {
+pub fn side(rng: &mut Rng) -> u32 {
     match rng.below(4) {
         0 => rng.pick(&SIDES),
         1 => rng.below(20),
@@ -445,7 +445,7 @@ fn side(rng: &mut Rng) -> u32 {
     }
 }
 
-fn step(rng: &mut Rng) -> u32 {
+pub fn step(rng: &mut Rng) -> u32 {
     match rng.below(4) {
         0 => rng.pick(&STEPS).to_bits(),
         1 => float(rng),

@@ -64,7 +64,7 @@ fn bytes(records: &[Record]) -> Vec<u8> {
 }
 
 fn compare_batch(records: &[Record], tally: &mut Tally) -> Result<(), String> {
-    let output = port::run(PROGRAM, &bytes(records))?;
+    let output = port::Port(None).run(PROGRAM, &bytes(records))?;
     if output.len() != records.len() * LINE_BYTES {
         return Err(format!(
             "{PROGRAM}: {} records gave {} bytes",

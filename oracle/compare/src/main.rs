@@ -1,15 +1,36 @@
 //! Runs the port against the Rust: see README.md.
 
 mod answer;
+mod bench;
+mod call;
 mod cases;
+mod checked;
+mod debug;
 mod floats;
+mod leaf;
 mod port;
 mod record;
 mod rng;
+mod rules;
+mod scripts;
+mod tally;
+mod trace;
+mod traces;
+mod twins;
 
+use port::Port;
+use scripts::Kinds;
+use std::io::{self, Read, Write};
 use std::process::ExitCode;
 
-const USAGE: &str = "usage: oracle floats [--seed N] [--cases N] [--least N] | oracle sample";
+const USAGE: &str = "usage:
+  oracle floats [--seed N] [--cases N] [--least N]
+  oracle sample
+  oracle trace | trace-text | trace-digests
+  oracle traces [--seed N] [--scripts N] [--least-calls N] [--calls KINDS] [--port COMMAND]
+  oracle trace-sample [--calls KINDS]
+  oracle bench [--rounds N]
+KINDS: all, no-builders, no-update, or call bytes with commas between them";
 
 fn main() -> ExitCode {
     let words: Vec<String> = std::env::args().skip(1).collect();
@@ -24,28 +45,78 @@ fn main() -> ExitCode {
 }
 
 fn run(words: &[&str]) -> Result<(), String> {
-    match words {
-        ["floats", options @ ..] => {
-            let [seed, cases, least] = numbers(
-                options,
-                [("--seed", 1), ("--cases", 1_500_000), ("--least", 0)],
-            )?;
-            floats::compare(seed, cases, least)
+    let (command, words) = words.split_first().ok_or(USAGE)?;
+    match *command {
+        "floats" => {
+            let options = Options::read(words, &["--seed", "--cases", "--least"])?;
+            floats::compare(
+                options.number("--seed", 1)?,
+                options.number("--cases", 1_500_000)?,
+                options.number("--least", 0)?,
+            )
         }
-        ["sample"] => floats::write_sample(),
+        "sample" => Options::read(words, &[]).and_then(|_| floats::write_sample()),
+        "trace" => Options::read(words, &[]).and_then(|_| write_trace(None)),
+        "trace-text" => Options::read(words, &[]).and_then(|_| write_trace(Some(trace::TEXT))),
+        "trace-digests" => {
+            Options::read(words, &[]).and_then(|_| write_trace(Some(trace::DIGESTS)))
+        }
+        "traces" => {
+            let known = ["--seed", "--scripts", "--least-calls", "--calls", "--port"];
+            let options = Options::read(words, &known)?;
+            traces::compare(&traces::Options {
+                seed: options.number("--seed", 1)?,
+                scripts: options.number("--scripts", 20_000)?,
+                least_calls: options.number("--least-calls", 0)?,
+                kinds: options.kinds()?,
+                port: Port(options.get("--port").map(String::from)),
+            })
+        }
+        "trace-sample" => traces::write_sample(Options::read(words, &["--calls"])?.kinds()?),
+        "bench" => bench::run(Options::read(words, &["--rounds"])?.number("--rounds", 9)?),
         _ => Err(USAGE.into()),
     }
 }
 
-/// The numbers that the options give, or else their defaults.
-fn numbers<const N: usize>(words: &[&str], known: [(&str, u64); N]) -> Result<[u64; N], String> {
-    let mut values = known.map(|(_, default)| default);
-    for pair in words.chunks(2) {
-        let [name, number] = pair else {
-            return Err(USAGE.into());
-        };
-        let at = known.iter().position(|(option, _)| option == name);
-        values[at.ok_or(USAGE)?] = number.parse().map_err(|_| USAGE)?;
+/// Answers the scripts on standard input, in the form that its first byte says or in another.
+fn write_trace(form: Option<u8>) -> Result<(), String> {
+    let mut input = Vec::new();
+    let io = |e: io::Error| e.to_string();
+    io::stdin().read_to_end(&mut input).map_err(io)?;
+    if let (Some(byte), Some(form)) = (input.first_mut(), form) {
+        *byte = form;
     }
-    Ok(values)
+    io::stdout().write_all(&trace::answer(&input)).map_err(io)
+}
+
+/// Options and their values.
+struct Options<'a>(Vec<(&'a str, &'a str)>);
+
+impl<'a> Options<'a> {
+    fn read(words: &[&'a str], known: &[&str]) -> Result<Self, String> {
+        let mut given = Vec::new();
+        for pair in words.chunks(2) {
+            match pair {
+                [name, value] if known.contains(name) => given.push((*name, *value)),
+                _ => return Err(USAGE.into()),
+            }
+        }
+        Ok(Options(given))
+    }
+
+    fn get(&self, name: &str) -> Option<&'a str> {
+        let last = self.0.iter().rev().find(|(given, _)| *given == name);
+        last.map(|(_, value)| *value)
+    }
+
+    fn number(&self, name: &str, default: u64) -> Result<u64, String> {
+        match self.get(name) {
+            Some(value) => value.parse().map_err(|_| USAGE.into()),
+            None => Ok(default),
+        }
+    }
+
+    fn kinds(&self) -> Result<Kinds, String> {
+        Kinds::named(self.get("--calls").unwrap_or("all")).ok_or(USAGE.into())
+    }
 }
