@@ -21,7 +21,7 @@ use Rattle.timeline.specs.declared.timeline.Timeline.{Timeline}
 use Rattle.timeline.specs.Placements.{empty}
 use Rattle.timeline.specs.Calls.{Call, Add, AddBoxed, Out, step, after, addedBy}
 use Rattle.history.specs.Claim.{AllBuild}
-use Rattle.history.proofs.Claim as history
+use Rattle.history.proofs.Covered as history
 use Rattle.group.specs.declared.sequence.Sequence.{Sequence}
 use Rattle.group.specs.declared.sequence.Sequenced.{Sequenced}
 use Rattle.group.specs.Items.{itemLabel, itemCalls, builtBy}
@@ -33,15 +33,9 @@ use Rattle.group.proofs.Items.{item-added}
 
 -- what a list of calls makes is covered
 covered : (calls : List Call) (t : Timeline) → t ≡ after empty calls → Covered t
-covered calls t e = record { calls = calls; made = e; seeks = rw e (history.claim calls) }
+covered calls t e = record { calls = calls; made = e; seeks = history.covered t calls e; sound = history.covered-sound t calls e }
 
 -- ---- sequences
-
--- one call more
-after-last : (t : Timeline) (calls : List Call) (call : Call) → after t (calls ++ (call ∷ [])) ≡ step (after t calls) call .timeline
-unfolding after
-after-last t [] call = refl
-after-last t (x ∷ calls) call = after-last (step t x .timeline) calls call
 
 -- a list of calls makes the timeline
 record Made (t : Timeline) : Type 0 where
@@ -49,10 +43,11 @@ record Made (t : Timeline) : Type 0 where
   made : t ≡ after empty calls
 
 step-made : (t : Timeline) (call : Call) → Made t → Made (step t call .timeline)
+unfolding after
 step-made t call m =
     record {
       calls = m .calls ++ (call ∷ []);
-      made = ap (λ (x : Timeline). step x call .timeline) (m .made) ∙ sym (after-last empty (m .calls) call);
+      made = ap (λ (x : Timeline). step x call .timeline) (m .made) ∙ sym (history.after-append empty (m .calls) (call ∷ []));
     }
 
 either-made : (b : Bool) (x y : Sequenced) → Made (x .sequence .inner) → Made (y .sequence .inner) → Made (cond b x y .sequence .inner)

@@ -11,17 +11,19 @@ use Rattle.timeline.specs.declared.timeline.At.{At}
 use Rattle.timeline.specs.declared.timeline.Timeline.{Timeline}
 use Rattle.timeline.specs.Placements.{empty}
 use Rattle.timeline.specs.Calls.{Call, after}
+use Rattle.history.specs.Invariant.{Invariant}
 use Rattle.history.specs.Claim.{Seeks, AllBuild}
 use Rattle.group.specs.Items.{itemCalls}
 use Rattle.group.specs.Sequence.{SequenceCall, newSequence, sequenceAfter}
 use Rattle.group.specs.Stagger.{staggered}
 use Rattle.group.specs.Group.{parallelOf, sequenceOf, staggerOf}
 
--- a list of calls makes the timeline from the empty one, and the claim about such lists holds of it
+-- a list of calls makes the timeline from the empty one, so the claim about such lists and the invariant hold of it
 pub record Covered (t : Timeline) : Type 0 where
   pub calls : List Call
   pub made : t ≡ after empty calls
   pub seeks : Seeks calls t
+  pub sound : Invariant t
 
 pub record Claim : Type 0 where
   -- "Readers and builders hand out what such lists give"

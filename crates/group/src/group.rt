@@ -166,7 +166,7 @@ impl AnimationGroup {
         self.seek(Share(left), kinds, amounts, places)
     }
 
-    // 1.0 is normal speed; negative and NaN become 0.
+    // Sets the speed: 1.0 is normal; negative and NaN become 0.
     pub fn set_time_scale(self, scale: f32) -> AnimationGroup
         ensures { λ r. ⌜ r ≡ groupOf (step (self .inner) (On (SetTimeScale scale)) .timeline) ⌝ }
     {
@@ -204,7 +204,7 @@ impl AnimationGroup {
         ensures { λ r. ⌜ r ≡ groupIntrospected self ⌝ }
     {
         let inner = self.inner;
-        let progress = inner.progress();
+        let progress = self.progress();
         let elapsed = inner.elapsed();
         let duration = self.duration();
         let state = inner.state();

@@ -70,22 +70,22 @@ impl Sequence {
         self.cursor
     }
 
-    // What is left after an entry was added at the cursor, or refused.
+    // The next sequence, where the entry was added; a refused one leaves the sequence, cursor included.
     fn then_by(self, added: Added, duration: f32) -> Sequenced
         ensures { λ r. ⌜ r ≡ thenBy self added duration ⌝ }
     {
+        let cursor = self.advanced(duration);
+        let inner = added.timeline;
+        let next = Sequence { cursor, inner };
         if added.refusal != refusal::ACCEPTED {
             return Sequenced {
                 refusal: added.refusal,
                 sequence: self,
             };
         }
-        let cursor = self.advanced(duration);
-        let inner = added.timeline;
-        let sequence = Sequence { cursor, inner };
         Sequenced {
             refusal: refusal::ACCEPTED,
-            sequence,
+            sequence: next,
         }
     }
 

@@ -7,7 +7,7 @@ new-requires : tie.Need-new-requires
 new-requires c κs = search needs
 
 returns : tie.Need-returns
-returns c = cc
+returns c = rw (c .new .ensures)
 
 pub refused-with-spec : {M : Type 1} → statement M
 refused-with-spec = tie.close (tie.spec new-requires returns)

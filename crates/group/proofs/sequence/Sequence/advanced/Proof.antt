@@ -9,7 +9,7 @@ max-requires c κs = search needs
 
 returns : tie.Need-returns
 unfolding advance
-returns c = cc
+returns c = rw (c .max .ensures)
 
 pub advanced-spec : {M : Type 1} → statement M
 advanced-spec = tie.close (tie.spec max-requires returns)

@@ -9,7 +9,7 @@ advanced-requires c κs = search needs
 
 returns : tie.Need-returns
 unfolding sequenceStep
-returns c = cc
+returns c = rw (c .advanced .ensures)
 
 pub gap-spec : {M : Type 1} → statement M
 gap-spec = tie.close (tie.spec advanced-requires returns)

@@ -9,7 +9,7 @@ new-requires c κs = search needs
 
 returns : tie.Need-returns
 unfolding newSequence
-returns c = cc
+returns c = rw (c .new .ensures)
 
 pub new-spec : {M : Type 1} → statement M
 new-spec = tie.close (tie.spec new-requires returns)

@@ -1,5 +1,7 @@
 -- `then` is its step.
-use Rattle.group.specs.Sequence.{sequenceStep}
+use mathlib.Core.Path.{ap, _∙_}
+use Rattle.timeline.specs.declared.timeline.Added.{Added}
+use Rattle.group.specs.Sequence.{thenBy, sequenceStep}
 use borrow.Author.Needs.{needs}
 use Rattle.group.proofs.sequence.Sequence.then.Statement.{statement}
 use Rattle.group.proofs.sequence.Sequence.then.Tie as tie
@@ -12,7 +14,9 @@ then-by-requires c κs = search needs
 
 returns : tie.Need-returns
 unfolding sequenceStep
-returns c = cc
+returns c =
+    let g = c .before .before .before .before .args in
+    c .then-by .ensures ∙ ap (λ (a : Added). thenBy (g .self) a (g .duration)) (c .before .add .ensures)
 
 pub then-spec : {M : Type 1} → statement M
 then-spec = tie.close (tie.spec add-requires then-by-requires returns)
