@@ -1,5 +1,5 @@
 -- The claim of crate history covers what the builders hand out, and an accepted builder's calls are accepted.
-use Prim.Native.Nat.{ℕ, _+_, _<_, _≤_}
+use Prim.Native.Nat.{ℕ, _+_, _≤_}
 use mathlib.Core.Path.{_≡_, refl, sym, ap, _∙_}
 use mathlib.Core.Bool.{Bool, true, false, cond, _||_}
 use mathlib.Core.List.{List, [], _∷_, _++_}
@@ -59,7 +59,7 @@ unfolding thenBy
 then-made s call duration m =
     let o = step (s .inner) call in
     either-made (eqb (o .refusal) accepted)
-    (record { refusal = accepted; sequence = record { cursor = advance (s .cursor) duration; inner = o .timeline } })
+    (record { refusal = accepted; sequence = record { inner = o .timeline; cursor = advance (s .cursor) duration } })
     (record { refusal = o .refusal; sequence = s })
     (step-made (s .inner) call m) m
 

@@ -1,6 +1,6 @@
 -- A loop that adds items to a sequence: each is accepted, and the cursor is where the durations so far end.
 use Prim.Native.Nat.{ℕ, _+_, _<_, _≤_}
-use mathlib.Core.Path.{_≡_, refl, sym, ap, _∙_}
+use mathlib.Core.Path.{_≡_, sym, ap, _∙_}
 use mathlib.Core.List.{List}
 use native.Mathlib.Numerals.{add-one}
 use native.Mathlib.Omega.{arith}
@@ -32,7 +32,7 @@ module _ (s : Sequence) (i : ℕ) (d : Float) (e : s .inner .track .count ≡ i)
   added = step (s .inner) (Add (itemLabel i) (Absolute (s .cursor)) d)
 
   -- `then` of an item: the entry is added and the cursor advanced
-  then-item : sequenceStep s (Then (itemLabel i) d) .sequence ≡ record { cursor = advance (s .cursor) d; inner = added .timeline }
+  then-item : sequenceStep s (Then (itemLabel i) d) .sequence ≡ record { inner = added .timeline; cursor = advance (s .cursor) d }
   unfolding sequenceStep thenBy
   then-item = rw (item-added (s .inner) i (Absolute (s .cursor)) d e h)
 

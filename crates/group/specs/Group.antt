@@ -29,6 +29,7 @@ groupOf t = record { inner = t }
 
 -- ---- builders
 
+-- the answer of a builder, as a group
 abbrev pub groupBuilt : Built → GroupBuilt
 groupBuilt b = record { refusal = b .refusal; group = groupOf (b .timeline) }
 

@@ -1,6 +1,6 @@
 -- The items of a builder: their labels, the calls that add them, and what the builder hands out. Definitions only.
 use Prim.Native.Nat.{ℕ, _+_}
-use mathlib.Core.Bool.{Bool, true, false, cond}
+use mathlib.Core.Bool.{cond}
 use mathlib.Core.List.{List, [], _∷_, _++_}
 use lib.Dec.{eqb, ltb}
 use lib.Ieee.{Float}

@@ -1,6 +1,6 @@
 -- `Sequence`: entries that play one after another (sequence.rs). Definitions only.
 use Prim.Native.Nat.{ℕ}
-use mathlib.Core.Bool.{Bool, true, false, cond}
+use mathlib.Core.Bool.{cond}
 use mathlib.Core.List.{List, [], _∷_}
 use lib.Dec.{eqb}
 use lib.Ieee.{Float, binary32, add}
@@ -21,7 +21,7 @@ pub data SequenceCall : Type 0 where
 
 -- `Sequence::new`
 unfoldable pub newSequence : Sequence
-newSequence = record { cursor = zeroF; inner = empty }
+newSequence = record { inner = empty; cursor = zeroF }
 
 -- `self.cursor += seconds.max(0.0)`
 unfoldable pub advance : Float → Float → Float
@@ -31,17 +31,18 @@ advance cursor seconds = add binary32 cursor (maxF seconds zeroF)
 unfoldable pub thenBy : Sequence → Added → Float → Sequenced
 thenBy s a duration =
     cond (eqb (a .refusal) accepted)
-    (record { refusal = accepted; sequence = record { cursor = advance (s .cursor) duration; inner = a .timeline } })
+    (record { refusal = accepted; sequence = record { inner = a .timeline; cursor = advance (s .cursor) duration } })
     (record { refusal = a .refusal; sequence = s })
 
+-- what each call leaves and answers: an entry is added at `At::Absolute(self.cursor)`
 unfoldable pub sequenceStep : Sequence → SequenceCall → Sequenced
 sequenceStep s (Then name duration) = thenBy s (addedBy (step (s .inner) (Add name (Absolute (s .cursor)) duration))) duration
 sequenceStep s (ThenFor name duration) =
     thenBy s (addedBy (step (s .inner) (AddBoxed name (Absolute (s .cursor)) (maxF duration zeroF)))) duration
 sequenceStep s (Gap seconds) =
-    record { refusal = accepted; sequence = record { cursor = advance (s .cursor) seconds; inner = s .inner } }
+    record { refusal = accepted; sequence = record { inner = s .inner; cursor = advance (s .cursor) seconds } }
 
--- the sequence that a list of calls leaves
+-- the sequence that a list of calls leaves, each on what the one before left
 unfoldable pub sequenceAfter : Sequence → List SequenceCall → Sequence
 sequenceAfter s [] = s
 sequenceAfter s (c ∷ cs) = sequenceAfter (sequenceStep s c .sequence) cs

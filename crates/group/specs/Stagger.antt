@@ -13,5 +13,6 @@ use Rattle.group.specs.Items.{itemCalls, tooMany, builtBy}
 unfoldable pub atEvery : Float → ℕ → At
 atEvery delay i = Absolute (mul binary32 (fromU32 i) (maxF delay zeroF))
 
+-- what `stagger` hands out
 unfoldable pub staggered : List Float → Float → Built
 staggered ds delay = builtBy (tooMany (length ds)) (itemCalls (atEvery delay) 0 ds)

@@ -7,8 +7,8 @@ ghost use Rattle.group.specs.Sequence.{newSequence, advance, thenBy, The
 
 // A timeline, and the second at which its next entry starts.
 pub struct Sequence {
-    pub cursor: f32,
     pub inner: Timeline,
+    pub cursor: f32,
 }
 
 // The answer of the calls that add an entry.
@@ -23,7 +23,7 @@ impl Sequence {
         ensures { λ r. ⌜ r ≡ newSequence ⌝ }
     {
         let inner = Timeline::new();
-        Sequence { cursor: 0.0, inner }
+        Sequence { inner, cursor: 0.0 }
     }
 
     // One entry more, at the cursor; the duration is the leaf's. Refused as `add` is.
@@ -53,7 +53,7 @@ impl Sequence {
     {
         let inner = self.inner;
         let cursor = self.advanced(seconds);
-        Sequence { cursor, inner }
+        Sequence { inner, cursor }
     }
 
     // The timeline that was built.
@@ -76,7 +76,7 @@ impl Sequence {
     {
         let cursor = self.advanced(duration);
         let inner = added.timeline;
-        let next = Sequence { cursor, inner };
+        let next = Sequence { inner, cursor };
         if added.refusal != refusal::ACCEPTED {
             return Sequenced {
                 refusal: added.refusal,

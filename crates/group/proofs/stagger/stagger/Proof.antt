@@ -1,6 +1,6 @@
 -- `stagger` adds item i at i delays. The loop's invariant is `Building`, with its laws.
-use Prim.Native.Nat.{_-_, _≤_}
-use mathlib.Core.Path.{sym, ap, _∙_}
+use Prim.Native.Nat.{_-_}
+use mathlib.Core.Path.{sym, _∙_}
 use native.Mathlib.Omega.{arith}
 use borrow.Author.Needs.{needs}
 use denote.Ref.{now}

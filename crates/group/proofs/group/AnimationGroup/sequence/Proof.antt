@@ -1,12 +1,11 @@
 -- `sequence` adds each item at the cursor. The loop's invariant is `Sequencing`, with its laws.
-use Prim.Native.Nat.{_-_, _≤_}
+use Prim.Native.Nat.{_-_}
 use mathlib.Core.Path.{sym, ap, _∙_}
 use native.Mathlib.Omega.{arith}
 use borrow.Author.Needs.{needs}
 use denote.Ref.{now}
 use lib.ListN.{length}
 use lib.Ieee.{nan}
-use Rattle.steps.specs.Times.{maxEntries}
 use Rattle.group.specs.Items.{itemCalls}
 use Rattle.group.specs.Group.{groupBuilt, atCursor, sequenceOf}
 use Rattle.group.proofs.Items.{room, refused-as, built-as}

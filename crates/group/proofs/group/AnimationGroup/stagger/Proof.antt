@@ -1,5 +1,5 @@
 -- `stagger` adds each item at the pattern's delay. The loop's invariant is `Building`, with its laws.
-use Prim.Native.Nat.{_-_, _≤_}
+use Prim.Native.Nat.{_-_}
 use mathlib.Core.Path.{_≡_, sym, ap, ap₂, _∙_}
 use native.Mathlib.Omega.{arith}
 use borrow.Author.Needs.{needs}
