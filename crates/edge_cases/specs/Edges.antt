@@ -19,14 +19,16 @@ use Rattle.timeline.specs.declared.timeline.At.{At}
 use Rattle.timeline.specs.declared.timeline.At.the-variants.{Start, End, Offset}
 use Rattle.timeline.specs.Placements.{empty}
 use Rattle.timeline.specs.Calls.{Call, Add, AddAtLabel, On, Out, step, after}
+use Rattle.group.specs.Group.{groupOf, groupDuration}
 
 -- what is asked of the last call's outcome; floats are asked for by their bits
 pub data Question : Type 0 where
   state elapsed base run local progress starts kinds listed : Question
 
--- calls on the empty timeline, a last call, what is asked of it, and the answer; or a delay of a stagger pattern
+-- calls on the empty timeline, a last call, what is asked of it, and the answer; or the duration of the group of what calls make; or a delay of a stagger pattern
 pub data Edge : Type 0 where
   panel : List Call → Call → Question → List ℕ → Edge
+  group : List Call → ℕ → Edge
   delay : Case → Edge
 
 -- the order of `TimelineState`
@@ -56,6 +58,7 @@ sameNumbers (x ∷ xs) (y ∷ ys) = eqb x y && sameNumbers xs ys
 -- the definitions give the answer
 unfoldable pub edgeHolds : Edge → Bool
 edgeHolds (panel cs c q l) = sameNumbers (answer q (step (after empty cs) c)) l
+edgeHolds (group cs bits) = eqb (toBits (groupDuration (groupOf (after empty cs)))) bits
 edgeHolds (delay k) = caseHolds k
 
 unfoldable pub allHold : List Edge → Bool
@@ -132,7 +135,8 @@ panels =
     -- "Forever: elapsed NaN, nothing listed."
     ∷ panel (two ∷ On (SetTimeScale zeroF) ∷ On (Looping Forever) ∷ play ∷ []) (by infinityF) elapsed (0x7fc00000 ∷ [])
     ∷ panel (two ∷ On (SetTimeScale zeroF) ∷ On (Looping Forever) ∷ play ∷ []) (by infinityF) listed []
-    -- "Base 2, `Times(3)`: .. timeline run 6."
+    -- "Base 2, `Times(3)`: group duration 2, timeline run 6."
+    ∷ group (two ∷ On (Looping (Times 3)) ∷ []) 0x40000000
     ∷ panel (two ∷ []) (On (Looping (Times 3))) run (0x40c00000 ∷ [])
     ∷ []
 

@@ -1,0 +1,5 @@
+pub mod Items
+pub mod Building
+pub mod Sequencing
+pub mod Forwards
+pub mod Claim

@@ -1,0 +1,22 @@
+-- `then_by` is `thenBy`.
+use borrow.Author.Needs.{needs}
+use borrow.Author.Tests.{eq-eqb, ne-eqb}
+use Rattle.group.specs.Sequence.{thenBy}
+use Rattle.group.proofs.sequence.Sequence.then_by.Statement.{statement}
+use Rattle.group.proofs.sequence.Sequence.then_by.Tie as tie
+
+advanced-requires : tie.Need-advanced-requires
+advanced-requires c κs = search needs
+
+returns : tie.Need-returns
+unfolding thenBy
+returns c = rw (ne-eqb (c .before .before .before .before .args .added .refusal) 0 (c .if1 .taken))
+
+returns-2 : tie.Need-returns-2
+unfolding thenBy
+returns-2 c =
+    let next = c .before .before .before in
+    rw (eq-eqb (next .before .args .added .refusal) 0 (c .if1 .left), next .advanced .ensures)
+
+pub then-by-spec : {M : Type 1} → statement M
+then-by-spec = tie.close (tie.spec advanced-requires returns returns-2)
