@@ -24,6 +24,38 @@ badReplies = 4
 abbrev pub listTooShort : ℕ
 listTooShort = 5
 
+-- the sheet's version is not 1
+abbrev pub sheetVersion : ℕ
+sheetVersion = 6
+
+-- the sheet's length is wrong
+abbrev pub sheetLength : ℕ
+sheetLength = 7
+
+-- the count is above the most that a timeline can hold
+abbrev pub sheetCount : ℕ
+sheetCount = 8
+
+-- the loop mode is above 4, or has a number that it does not take
+abbrev pub sheetLoop : ℕ
+sheetLoop = 9
+
+-- a placement's kind is above 4, or its target is wrong
+abbrev pub sheetPlacement : ℕ
+sheetPlacement = 10
+
+-- a pair is out of place, or its label is too long
+abbrev pub sheetPair : ℕ
+sheetPair = 11
+
+-- a byte that must be 0 is not
+abbrev pub sheetZero : ℕ
+sheetZero = 12
+
 -- a grid side is above 65,535
 abbrev pub gridTooLarge : ℕ
 gridTooLarge = 13
+
+-- the room for a written sheet is too short
+abbrev pub roomTooShort : ℕ
+roomTooShort = 15

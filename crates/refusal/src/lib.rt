@@ -17,5 +17,29 @@ pub const BAD_REPLIES: u8 = 4;
 // The update's completions outnumber the lent list.
 pub const LIST_TOO_SHORT: u8 = 5;
 
+// The sheet's version is not 1.
+pub const SHEET_VERSION: u8 = 6;
+
+// The sheet's length is wrong.
+pub const SHEET_LENGTH: u8 = 7;
+
+// The count is above the most that a timeline can hold.
+pub const SHEET_COUNT: u8 = 8;
+
+// The loop mode is above 4, or has a number that it does not take.
+pub const SHEET_LOOP: u8 = 9;
+
+// A placement's kind is above 4, or its target is wrong.
+pub const SHEET_PLACEMENT: u8 = 10;
+
+// A pair is out of place, or its label is too long.
+pub const SHEET_PAIR: u8 = 11;
+
+// A byte that must be 0 is not.
+pub const SHEET_ZERO: u8 = 12;
+
 // A grid side is above 65,535.
 pub const GRID_TOO_LARGE: u8 = 13;
+
+// The room for a written sheet is too short.
+pub const ROOM_TOO_SHORT: u8 = 15;

@@ -1,0 +1,20 @@
+-- A NaN is made; every other pattern is read.
+use mathlib.Core.Path.{sym}
+use lib.Ieee.{div, ofBits}
+use Rattle.sheet.proofs.Floats.{above, up-to}
+use borrow.Author.Needs.{needs}
+use Rattle.sheet.proofs.float_of.Statement.{statement}
+use Rattle.sheet.proofs.float_of.Tie as tie
+
+returns : tie.Need-returns
+unfolding div ofBits
+returns c = sym (above _ (c .if1 .taken))
+
+float-from-bits-result : tie.Need-float-from-bits-result
+float-from-bits-result c = up-to _ (c .if1 .left)
+
+returns-2 : tie.Need-returns-2
+returns-2 c = search needs
+
+pub float-of-spec : {M : Type 1} → statement M
+float-of-spec = tie.close (tie.spec returns float-from-bits-result returns-2)

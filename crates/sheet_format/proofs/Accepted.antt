@@ -1,0 +1,75 @@
+-- What holds of a sheet that the checks accept.
+use Prim.Native.Nat.{ℕ, suc, _≤_}
+use mathlib.Core.Path.{_≡_, refl}
+use mathlib.Core.Bool.{Bool, true, false, cond, _&&_}
+use mathlib.Core.List.{List}
+use native.Mathlib.Omega.{arith}
+use borrow.Author.Tests.{leb-true, eqb-true, eqb-false}
+use lib.Dec.{eqb}
+use lib.ListN.{length, drop}
+use Rattle.steps.specs.Times.{maxEntries}
+use Rattle.label.specs.Label.{maxLabel}
+use Rattle.sheet_format.specs.Words.{byteAt, word}
+use Rattle.sheet_format.specs.Check.{headerSize, recordsAt, labelsAt, unless, inTurn, countIn, loopGood, headerNumber, offsetIn, lengthIn, pairGood, pairsNumber, recordsNumber, checkNumber}
+
+-- both of two
+pub and-true : (a b : Bool) → (a && b) ≡ true → (a ≡ true) × (b ≡ true)
+and-true true true e = (refl, refl)
+and-true true false e = (refl, e)
+and-true false b e = (e, cc)
+
+-- a check that does not refuse was passed, and so were those after it
+pub passed : (good : Bool) (number next : ℕ) → unless good (suc number) next ≡ 0 → (good ≡ true) × (next ≡ 0)
+passed true number next e = (refl, e)
+passed false number next e = absurd (omega arith)
+
+pub in-turn : (first second : ℕ) → inTurn first second ≡ 0 → (first ≡ 0) × (second ≡ 0)
+in-turn first second e = go (eqb first 0) refl e
+  where
+    go : (b : Bool) → eqb first 0 ≡ b → cond b second first ≡ 0 → (first ≡ 0) × (second ≡ 0)
+    go true t q = (eqb-true first 0 t, q)
+    go false t q = absurd (eqb-false first 0 t q)
+
+pub record Header (s : List ℕ) : Type 0 where
+  pub long : headerSize ≤ length s
+  pub version : byteAt s 0 ≡ 1
+  pub zero : byteAt s 3 ≡ 0
+  pub few : countIn s ≤ maxEntries
+  pub looping : loopGood (byteAt s 2) (word 4 (drop 4 s)) ≡ true
+  pub room : labelsAt (countIn s) ≤ length s
+
+pub header-accepted : (s : List ℕ) → headerNumber s ≡ 0 → Header s
+unfolding headerNumber
+header-accepted s e =
+    let a = passed _ 6 _ e in
+    let b = passed _ 5 _ (a .1) in
+    let c = passed _ 11 _ (b .1) in
+    let d = passed _ 7 _ (c .1) in
+    let f = passed _ 8 _ (d .1) in
+    let g = passed _ 6 _ (f .1) in
+    record {
+      long = leb-true _ _ (a .0);
+      version = eqb-true _ _ (b .0);
+      zero = eqb-true _ _ (c .0);
+      few = leb-true _ _ (d .0);
+      looping = f .0;
+      room = leb-true _ _ (g .0);
+    }
+
+pub record Accepted (s : List ℕ) : Type 0 where
+  pub header : Header s
+  pub pairs : pairsNumber (length s) (labelsAt (countIn s)) (countIn s) (drop headerSize s) ≡ 0
+  pub records : recordsNumber (countIn s) (countIn s) (drop (recordsAt (countIn s)) s) ≡ 0
+
+pub accepted-sheet : (s : List ℕ) → checkNumber s ≡ 0 → Accepted s
+unfolding checkNumber
+accepted-sheet s e =
+    let a = in-turn _ _ e in
+    let b = in-turn _ _ (a .1) in
+    record { header = header-accepted s (a .0); pairs = b .0; records = b .1 }
+
+-- a pair in its place, no longer than a label
+pub pair-good : (place : ℕ) (pairs : List ℕ) → pairGood place pairs ≡ true → (offsetIn pairs ≡ place) × (lengthIn pairs ≤ maxLabel)
+pair-good place pairs g =
+    let t = and-true _ _ g in
+    (eqb-true _ _ (t .0), leb-true _ _ (t .1))

@@ -1,0 +1,9 @@
+-- Laws of sheets: words, stores, parts, the turns of the loops, and the round trips.
+pub mod Bytes
+pub mod Stores
+pub mod Parts
+pub mod Filling
+pub mod Accepted
+pub mod Turns
+pub mod Lefts
+pub mod Sheets

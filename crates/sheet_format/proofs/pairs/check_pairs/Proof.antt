@@ -1,0 +1,92 @@
+-- What the pairs so far leave to check: those from i on, the first of which has to start at place.
+use Rattle.sheet_format.proofs.Accepted.{pair-good}
+use mathlib.Core.Path.{_≡_, refl, sym, _∙_}
+use Prim.Native.Nat.{_+_, _*_, _-_, _≤_}
+use native.Mathlib.Omega.{arith}
+use borrow.Author.Tests.{not-true, not-false, eq-eqb, ne-eqb}
+use lib.ListN.{length, drop}
+use Rattle.sheet_format.specs.Check.{headerSize, labelsAt, pairsNumber}
+use Rattle.sheet_format.proofs.Turns.{pairs-bad, pairs-more, pairs-end}
+use Rattle.sheet_format.proofs.pairs.check_pairs.Statement.{statement}
+use Rattle.sheet_format.proofs.pairs.check_pairs.Tie as tie
+
+abbrev Inv-loop : tie.InvT-loop
+Inv-loop sheet n place₀ at₀ i₀ place at i = (i ≤ n) × (at ≡ headerSize + 4 * i) × (place ≤ labelsAt n + 24 * i) × (pairsNumber (length sheet) (labelsAt n) n (drop headerSize sheet) ≡ pairsNumber (length sheet) place (n - i) (drop at sheet))
+
+abbrev μ-loop : tie.MeasureT-loop
+μ-loop sheet n place₀ at₀ i₀ place at i = n - i
+
+labels-at-requires : tie.Need-labels-at-requires Inv-loop μ-loop
+labels-at-requires c κs = omega arith
+
+loop-holds : tie.Need-loop-holds Inv-loop μ-loop
+loop-holds c =
+    let n = c .before .before .args .n in
+    let z : n - 0 ≡ n = omega arith in
+    (omega arith, refl, omega (arith, c .labels-at .ensures), rw (z, c .labels-at .ensures))
+
+pair-good-requires : tie.Need-pair-good-requires Inv-loop μ-loop
+pair-good-requires c κs = omega arith
+
+returns : tie.Need-returns Inv-loop μ-loop
+returns c =
+    let at = c .before .before .before in
+    let n = c .before .before .before .before .before .before .args .n in
+    sym (at .loop .inv .3 ∙ pairs-bad n (at .loop .i) _ _ (at .loop .at) _ (omega arith) (sym (c .before .pair-good .ensures) ∙ not-true (c .before .pair-good .result) (c .if1 .taken)))
+
+length-at-requires : tie.Need-length-at-requires Inv-loop μ-loop
+length-at-requires c κs = omega arith
+
+add-place : tie.Need-add-place Inv-loop μ-loop
+add-place c =
+    let good = sym (c .before .before .pair-good .ensures) ∙ not-false (c .before .before .pair-good .result) (c .before .if1 .left) in
+    omega (arith, c .length-at .ensures, pair-good _ _ good .1)
+
+add-at : tie.Need-add-at Inv-loop μ-loop
+add-at c = omega arith
+
+add-i : tie.Need-add-i Inv-loop μ-loop
+add-i c = omega arith
+
+loop-less : tie.Need-loop-less Inv-loop μ-loop
+loop-less c = omega arith
+
+loop-again : tie.Need-loop-again Inv-loop μ-loop
+loop-again c =
+    let at = c .before .before .before .before in
+    let n = c .before .before .before .before .before .before .before .args .n in
+    let good = sym (c .before .before .pair-good .ensures) ∙ not-false (c .before .before .pair-good .result) (c .before .if1 .left) in (
+      omega arith,
+      omega arith,
+      omega (arith, c .length-at .ensures, pair-good _ _ good .1),
+      at .loop .inv .3 ∙ pairs-more n (at .loop .i) _ _ (at .loop .at) _ (omega arith) good ∙ rw (c .length-at .ensures),
+    )
+
+returns-2 : tie.Need-returns-2 Inv-loop μ-loop
+returns-2 c =
+    let at = c .before .before in
+    sym (at .loop .inv .3 ∙ pairs-end (c .before .before .before .before .before .args .n) (at .loop .i) _ _ (at .loop .at) _ (omega arith) ∙ rw (eq-eqb _ _ (c .if2 .taken)))
+
+returns-3 : tie.Need-returns-3 Inv-loop μ-loop
+returns-3 c =
+    let at = c .before .before in
+    sym (at .loop .inv .3 ∙ pairs-end (c .before .before .before .before .before .args .n) (at .loop .i) _ _ (at .loop .at) _ (omega arith) ∙ rw (ne-eqb _ _ (c .if2 .left)))
+
+pub check-pairs-spec : {M : Type 1} → statement M
+check-pairs-spec =
+    tie.close
+    (tie.spec
+    Inv-loop
+    μ-loop
+    labels-at-requires
+    loop-holds
+    pair-good-requires
+    returns
+    length-at-requires
+    add-place
+    add-at
+    add-i
+    loop-less
+    loop-again
+    returns-2
+    returns-3)

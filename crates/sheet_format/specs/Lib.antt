@@ -1,0 +1,4 @@
+pub mod Words
+pub mod Descriptions
+pub mod Check
+pub mod Write

@@ -1,0 +1,136 @@
+// The header: version, count, mode, loop number, scale bits.
+use crate::words::put_four;
+use crate::words::put_u32;
+use crate::words::u32_at;
+use refusal::ACCEPTED;
+use refusal::SHEET_COUNT;
+use refusal::SHEET_LENGTH;
+use refusal::SHEET_LOOP;
+use refusal::SHEET_VERSION;
+use refusal::SHEET_ZERO;
+use steps::MAX_ENTRIES;
+use tween::Loop;
+ghost use mathlib.Core.Path.{_≡_};
+ghost use Prim.Native.Nat.{_≤_};
+ghost use lib.ListN.{length};
+ghost use Rattle.digits.specs.Digits.{over};
+ghost use Rattle.sheet_format.specs.Check.{headerSize, recordsAt, labelsAt, loopGood, headerNumber};
+ghost use Rattle.sheet_format.specs.Descriptions.{loopOf};
+ghost use Rattle.sheet_format.specs.Write.{modeOf, numberOf, headerBytes};
+
+pub const HEADER_SIZE: usize = 12;
+
+pub const PAIR_SIZE: usize = 4;
+
+pub const RECORD_SIZE: usize = 12;
+
+const VERSION: u8 = 1;
+
+// Where the records of n entries start.
+pub fn records_at(n: usize) -> usize
+    requires { ⌜ n ≤ 255 ⌝ }
+    ensures { λ r. ⌜ r ≡ recordsAt n ⌝ }
+{
+    HEADER_SIZE + PAIR_SIZE * n
+}
+
+// Where the labels of n entries start.
+pub fn labels_at(n: usize) -> usize
+    requires { ⌜ n ≤ 255 ⌝ }
+    ensures { λ r. ⌜ r ≡ labelsAt n ⌝ }
+{
+    HEADER_SIZE + (PAIR_SIZE + RECORD_SIZE) * n
+}
+
+// Whether there is such a mode, and the number is 0 where the mode takes none.
+fn loop_good(mode: u8, number: u32) -> bool
+    ensures { λ r. ⌜ r ≡ loopGood mode number ⌝ }
+{
+    if mode > 4 {
+        return false;
+    }
+    if mode == 1 {
+        return true;
+    }
+    if mode == 4 {
+        return true;
+    }
+    number == 0
+}
+
+pub fn check_header(sheet: &[u8]) -> u8
+    ensures { λ r. ⌜ r ≡ headerNumber (now (sheet .entry)) ⌝ }
+{
+    if sheet.len() < HEADER_SIZE {
+        return SHEET_LENGTH;
+    }
+    if sheet[0] != VERSION {
+        return SHEET_VERSION;
+    }
+    if sheet[3] != 0 {
+        return SHEET_ZERO;
+    }
+    let n = sheet[1] as usize;
+    if n > MAX_ENTRIES {
+        return SHEET_COUNT;
+    }
+    if !loop_good(sheet[2], u32_at(sheet, 4)) {
+        return SHEET_LOOP;
+    }
+    if sheet.len() < labels_at(n) {
+        return SHEET_LENGTH;
+    }
+    ACCEPTED
+}
+
+// The mode that a mode byte and a loop number say.
+pub fn loop_of(mode: u8, number: u32) -> Loop
+    ensures { λ r. ⌜ r ≡ loopOf mode number ⌝ }
+{
+    if mode == 0 {
+        return Loop::Once;
+    }
+    if mode == 1 {
+        return Loop::Times(number);
+    }
+    if mode == 2 {
+        return Loop::Forever;
+    }
+    if mode == 3 {
+        return Loop::PingPong;
+    }
+    Loop::PingPongTimes(number)
+}
+
+fn mode_of(looping: Loop) -> u8
+    ensures { λ r. ⌜ r ≡ modeOf looping ⌝ }
+{
+    match looping {
+        Loop::Once => 0,
+        Loop::Times(_) => 1,
+        Loop::Forever => 2,
+        Loop::PingPong => 3,
+        Loop::PingPongTimes(_) => 4,
+    }
+}
+
+fn number_of(looping: Loop) -> u32
+    ensures { λ r. ⌜ r ≡ numberOf looping ⌝ }
+{
+    match looping {
+        Loop::Once => 0,
+        Loop::Times(n) => n,
+        Loop::Forever => 0,
+        Loop::PingPong => 0,
+        Loop::PingPongTimes(n) => n,
+    }
+}
+
+pub fn put_header(room: &mut [u8], n: u8, looping: Loop, scale: u32)
+    requires { ⌜ headerSize ≤ length (now room) ⌝ }
+    ensures { λ _. ⌜ now (room .exit) ≡ over (headerBytes n looping scale) 0 (now (room .entry)) ⌝ }
+{
+    put_four(room, 0, VERSION, n, mode_of(looping), 0);
+    put_u32(room, 4, number_of(looping));
+    put_u32(room, 8, scale);
+}

@@ -1,0 +1,14 @@
+// The stored sheet (paper 01, "The sheet"): what it describes, its checks, its reader and its writer. Header, pairs and records stand apart.
+pub mod checks;
+pub mod description;
+mod header;
+mod pairs;
+mod records;
+mod words;
+pub mod writing;
+
+pub use checks::check;
+pub use description::describe;
+pub use description::label_text;
+pub use pairs::text_len;
+pub use writing::write;
