@@ -1,7 +1,28 @@
 // Timelines (timeline.rs), in the Rust's order.
+use crate::introspection::AnimationIntrospection;
+use crate::introspection::AnimationKind;
+use label::Found;
 use label::Label;
+use label::MAX_LABEL;
+use steps::Entry;
 use steps::MAX_ENTRIES;
+use track::clock::TimelineState;
+use track::track::Secs;
+use track::track::Share;
 use track::track::Track;
+use track::track::TrackMoved;
+use tween::Loop;
+ghost use mathlib.Core.Path.{_≡_};
+ghost use Prim.Native.Nat.{_<_};
+ghost use lib.ListN.{length, getD};
+ghost use Rattle.steps.specs.Times.{maxEntries};
+ghost use Rattle.label.specs.Label.{firstLike};
+ghost use Rattle.track.specs.Clocks.{isCompleted};
+ghost use Rattle.track.specs.Tracks.{live, trackBase, trackRun, progressOf, blank, Sent};
+ghost use Rattle.track.specs.Calls.{Looping, SetTimeScale, Play, Pause, Resume, Reset, Seek, SeekAbs, roomOf};
+ghost use Rattle.timeline.specs.Placements.{empty, liveLabels, startFound, namedStart, resolveStart, grown};
+ghost use Rattle.timeline.specs.Calls.{Add, AddBoxed, AddAtLabel, On, addedAt, withTrack, step, addedBy, movedBy};
+ghost use Rattle.timeline.specs.Introspections.{introspected};
 
 // Where an entry starts. The label case carries the number of an entry, and means that entry's label.
 pub enum At {
@@ -42,4 +63,317 @@ pub struct Updated {
     pub completed: bool,
     pub listed: usize,
     pub timeline: Timeline,
+}
+
+impl Timeline {
+    // An empty timeline: Idle at 0, Once, scale 1.
+    pub fn new() -> Timeline
+        ensures { λ r. ⌜ r ≡ empty ⌝ }
+    {
+        let none = label::label_of(b"");
+        let track = Track::new();
+        let labels = [none; MAX_ENTRIES];
+        Timeline { track, labels }
+    }
+
+    // One entry more, where `at` says: refused by 1 where there is no room, then by 2 where its label is too long.
+    pub fn add(self, label: &[u8], at: At, duration: f32) -> Added
+        ensures { λ r. ⌜ r ≡ addedBy (step self (Add (now (label .entry)) at duration)) ⌝ }
+    {
+        let start = self.resolve_start(at);
+        self.push(label, start, duration)
+    }
+
+    // The same: in the Rust, of a leaf that is boxed already.
+    pub fn add_boxed_with_duration(self, label: &[u8], at: At, duration: f32) -> Added
+        ensures { λ r. ⌜ r ≡ addedBy (step self (AddBoxed (now (label .entry)) at duration)) ⌝ }
+    {
+        self.add(label, at, duration)
+    }
+
+    // `add` at a label that is named by its bytes; a name above MAX_LABEL bytes is not found.
+    pub fn add_at_label(self, label: &[u8], name: &[u8], duration: f32) -> Added
+        ensures { λ r. ⌜ r ≡ addedBy (step self (AddAtLabel (now (label .entry)) (now (name .entry)) duration)) ⌝ }
+    {
+        let start = self.named_start(name);
+        self.push(label, start, duration)
+    }
+
+    // What happens at the end of the base.
+    pub fn looping(self, mode: Loop) -> Timeline
+        ensures { λ r. ⌜ r ≡ step self (On (Looping mode)) .timeline ⌝ }
+    {
+        let before = self.track;
+        let track = before.looping(mode);
+        self.with_track(track)
+    }
+
+    // 1.0 is normal speed; negative and NaN become 0.
+    pub fn set_time_scale(self, scale: f32) -> Timeline
+        ensures { λ r. ⌜ r ≡ step self (On (SetTimeScale scale)) .timeline ⌝ }
+    {
+        let before = self.track;
+        let track = before.set_time_scale(scale);
+        self.with_track(track)
+    }
+
+    // Begins to play; from Completed, from the beginning.
+    pub fn play(self, kinds: &mut [u8], amounts: &mut [f32], places: &mut [f32]) -> Moved
+        ensures { λ r. ⌜ r ≡ movedBy (step self (On (Play (roomOf (now (kinds .entry)) (now (amounts .entry)) (now (places .entry)))))) ⌝ }
+        ensures { λ _. ⌜ Sent (step self (On (Play (roomOf (now (kinds .entry)) (now (amounts .entry)) (now (places .entry))))) .rows) (now (kinds .entry)) (now (kinds .exit)) (now (amounts .entry)) (now (amounts .exit)) (now (places .entry)) (now (places .exit)) ⌝ }
+    {
+        let track = self.track;
+        let m = track.play(kinds, amounts, places);
+        self.moved(m)
+    }
+
+    // Pauses what is Playing.
+    pub fn pause(self) -> Timeline
+        ensures { λ r. ⌜ r ≡ step self (On Pause) .timeline ⌝ }
+    {
+        let before = self.track;
+        let track = before.pause();
+        self.with_track(track)
+    }
+
+    // Plays on what is Paused.
+    pub fn resume(self) -> Timeline
+        ensures { λ r. ⌜ r ≡ step self (On Resume) .timeline ⌝ }
+    {
+        let before = self.track;
+        let track = before.resume();
+        self.with_track(track)
+    }
+
+    // Back to the beginning, with every entry.
+    pub fn reset(self, kinds: &mut [u8], amounts: &mut [f32], places: &mut [f32]) -> Moved
+        ensures { λ r. ⌜ r ≡ movedBy (step self (On (Reset (roomOf (now (kinds .entry)) (now (amounts .entry)) (now (places .entry)))))) ⌝ }
+        ensures { λ _. ⌜ Sent (step self (On (Reset (roomOf (now (kinds .entry)) (now (amounts .entry)) (now (places .entry))))) .rows) (now (kinds .entry)) (now (kinds .exit)) (now (amounts .entry)) (now (amounts .exit)) (now (places .entry)) (now (places .exit)) ⌝ }
+    {
+        let track = self.track;
+        let m = track.reset(kinds, amounts, places);
+        self.moved(m)
+    }
+
+    // To a share of the run; of an infinite run, to a share of the base.
+    pub fn seek(self, to: Share, kinds: &mut [u8], amounts: &mut [f32], places: &mut [f32]) -> Moved
+        ensures { λ r. ⌜ r ≡ movedBy (step self (On (Seek (to .0) (roomOf (now (kinds .entry)) (now (amounts .entry)) (now (places .entry)))))) ⌝ }
+        ensures { λ _. ⌜ Sent (step self (On (Seek (to .0) (roomOf (now (kinds .entry)) (now (amounts .entry)) (now (places .entry))))) .rows) (now (kinds .entry)) (now (kinds .exit)) (now (amounts .entry)) (now (amounts .exit)) (now (places .entry)) (now (places .exit)) ⌝ }
+    {
+        let track = self.track;
+        let m = track.seek(to, kinds, amounts, places);
+        self.moved(m)
+    }
+
+    // To a second of the run.
+    pub fn seek_abs(
+        self,
+        to: Secs,
+        kinds: &mut [u8],
+        amounts: &mut [f32],
+        places: &mut [f32],
+    ) -> Moved
+        ensures { λ r. ⌜ r ≡ movedBy (step self (On (SeekAbs (to .0) (roomOf (now (kinds .entry)) (now (amounts .entry)) (now (places .entry)))))) ⌝ }
+        ensures { λ _. ⌜ Sent (step self (On (SeekAbs (to .0) (roomOf (now (kinds .entry)) (now (amounts .entry)) (now (places .entry))))) .rows) (now (kinds .entry)) (now (kinds .exit)) (now (amounts .entry)) (now (amounts .exit)) (now (places .entry)) (now (places .exit)) ⌝ }
+    {
+        let track = self.track;
+        let m = track.seek_abs(to, kinds, amounts, places);
+        self.moved(m)
+    }
+
+    // The base: where the last entry ends.
+    pub fn duration(self) -> f32
+        ensures { λ r. ⌜ r ≡ trackBase (self .track) ⌝ }
+    {
+        let track = self.track;
+        track.duration()
+    }
+
+    // How far it has come, from 0 to 1.
+    pub fn progress(self) -> f32
+        ensures { λ r. ⌜ r ≡ progressOf (self .track) ⌝ }
+    {
+        let track = self.track;
+        track.progress()
+    }
+
+    // Whether it has played to its end.
+    pub fn is_complete(self) -> bool
+        ensures { λ r. ⌜ r ≡ isCompleted (self .track .clock .state) ⌝ }
+    {
+        let state = self.state();
+        track::clock::is_completed(state)
+    }
+
+    // The playback state.
+    pub fn state(self) -> TimelineState
+        ensures { λ r. ⌜ r ≡ self .track .clock .state ⌝ }
+    {
+        let track = self.track;
+        let clock = track.clock;
+        clock.state
+    }
+
+    // Seconds of play so far.
+    pub fn elapsed(self) -> f32
+        ensures { λ r. ⌜ r ≡ self .track .clock .elapsed ⌝ }
+    {
+        let track = self.track;
+        let clock = track.clock;
+        clock.elapsed
+    }
+
+    // How many entries there are.
+    pub fn entry_count(self) -> usize
+        ensures { λ r. ⌜ r ≡ length (live (self .track)) ⌝ }
+    {
+        let track = self.track;
+        track.entry_count()
+    }
+
+    // Where an entry starts.
+    fn resolve_start(self, at: At) -> f32
+        ensures { λ r. ⌜ r ≡ resolveStart self at ⌝ }
+    {
+        match at {
+            At::Absolute(secs) => float32::max(secs, 0.0),
+            At::Start => 0.0,
+            At::End => self.duration(),
+            At::Label(k) => self.like_start(k),
+            At::Offset(offset) => float32::max(self.duration() + offset, 0.0),
+        }
+    }
+
+    // The start of the first entry with this label, or the base.
+    fn named_start(self, name: &[u8]) -> f32
+        ensures { λ r. ⌜ r ≡ namedStart self (now (name .entry)) ⌝ }
+    {
+        let track = self.track;
+        let labels = self.labels;
+        let found = label::find(labels, track.count, name);
+        self.start_found(found)
+    }
+
+    // The start of the first entry with entry k's label, or the base.
+    fn like_start(self, k: usize) -> f32
+        ensures { λ r. ⌜ r ≡ startFound self (firstLike k (liveLabels self)) ⌝ }
+    {
+        let track = self.track;
+        let labels = self.labels;
+        let found = label::find_like(labels, track.count, k);
+        self.start_found(found)
+    }
+
+    // The start of the entry whose label was found, or the base.
+    fn start_found(self, found: Found) -> f32
+        ensures { λ r. ⌜ r ≡ startFound self found ⌝ }
+    {
+        match found {
+            Found::At(i) => self.start_at(i),
+            Found::Nothing => self.duration(),
+        }
+    }
+
+    // The start of entry i; 0 where there is none.
+    fn start_at(self, i: usize) -> f32
+        ensures { λ r. ⌜ r ≡ getD (live (self .track)) i blank .start ⌝ }
+    {
+        let track = self.track;
+        if i >= track.entry_count() {
+            return 0.0;
+        }
+        let entries = track.entries;
+        let e = entries[i];
+        e.start
+    }
+
+    // One entry more, if there is room for it and for its label.
+    fn push(self, label: &[u8], start: f32, duration: f32) -> Added
+        ensures { λ r. ⌜ r ≡ addedBy (addedAt self (now (label .entry)) start duration) ⌝ }
+    {
+        let track = self.track;
+        if track.count >= MAX_ENTRIES {
+            return Added {
+                refusal: refusal::TIMELINE_FULL,
+                timeline: self,
+            };
+        }
+        if label.len() > MAX_LABEL {
+            return Added {
+                refusal: refusal::LABEL_TOO_LONG,
+                timeline: self,
+            };
+        }
+        let timeline = self.grown(label, start, duration);
+        Added {
+            refusal: refusal::ACCEPTED,
+            timeline,
+        }
+    }
+
+    // One entry more, in the place of the count.
+    fn grown(self, label: &[u8], start: f32, duration: f32) -> Timeline
+        requires { ⌜ self .track .count < maxEntries ⌝ }
+        ensures { λ r. ⌜ r ≡ grown self (now (label .entry)) start duration ⌝ }
+    {
+        let mut track = self.track;
+        let mut labels = self.labels;
+        let n = track.count;
+        let length = float32::max(duration, 0.0);
+        let e = Entry {
+            start,
+            duration: length,
+            done: false,
+        };
+        track.entries[n] = e;
+        track.count = n + 1;
+        labels[n] = label::label_of(label);
+        Timeline { track, labels }
+    }
+
+    // What plays is another track; the labels stay.
+    fn with_track(self, track: Track) -> Timeline
+        ensures { λ r. ⌜ r ≡ withTrack self track ⌝ }
+    {
+        let labels = self.labels;
+        Timeline { track, labels }
+    }
+
+    // The answer of a call that moved what plays.
+    fn moved(self, m: TrackMoved) -> Moved
+        ensures { λ r. ⌜ r ≡ record { refusal = m .refusal; timeline = withTrack self (m .track) } ⌝ }
+    {
+        let track = m.track;
+        let timeline = self.with_track(track);
+        Moved {
+            refusal: m.refusal,
+            timeline,
+        }
+    }
+
+    // The run: the base times the number of passes.
+    pub fn playback_duration(self) -> f32
+        ensures { λ r. ⌜ r ≡ trackRun (self .track) ⌝ }
+    {
+        let track = self.track;
+        track.playback_duration()
+    }
+
+    // What is reported of it: its duration is the run.
+    pub fn introspect(self) -> AnimationIntrospection
+        ensures { λ r. ⌜ r ≡ introspected self ⌝ }
+    {
+        let progress = self.progress();
+        let elapsed = self.elapsed();
+        let duration = self.playback_duration();
+        let state = self.state();
+        let playback = crate::introspection::playback_state(state);
+        AnimationIntrospection::new(
+            AnimationKind::Timeline,
+            progress,
+            elapsed,
+            duration,
+            playback,
+        )
+    }
 }

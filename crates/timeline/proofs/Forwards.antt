@@ -1,0 +1,22 @@
+-- A call on what plays, forwarded: its answer and its rows are those of the track's call.
+use Prim.Native.Nat.{ℕ}
+use mathlib.Core.Path.{_≡_}
+use mathlib.Core.List.{List}
+use lib.Ieee.{Float}
+use Rattle.track.specs.declared.track.TrackMoved.{TrackMoved}
+use Rattle.track.specs.Tracks.{Sent}
+use Rattle.track.specs.Calls.{TrackCall, trackStep}
+use Rattle.track.proofs.Sending.{Answers}
+use Rattle.timeline.specs.declared.timeline.Timeline.{Timeline}
+use Rattle.timeline.specs.declared.timeline.Moved.{Moved}
+use Rattle.timeline.specs.Calls.{On, withTrack, step, movedBy}
+
+module _ (t : Timeline) (call : TrackCall) where
+  -- the answer of play, reset and the seeks
+  abbrev pub forwarded : TrackMoved → Moved
+  forwarded m = record { refusal = m .refusal; timeline = withTrack t (m .track) }
+
+  pub forwards : (m : TrackMoved) (r : Moved) (k k′ : List ℕ) (a a′ p p′ : List Float) → r ≡ forwarded m → Answers (trackStep (t .track) call) m k k′ a a′ p p′
+      → (r ≡ movedBy (step t (On call))) × Sent (step t (On call) .rows) k k′ a a′ p p′
+  unfolding step
+  forwards m r k k′ a a′ p p′ e h = (rw (e, h .0), h .1)
