@@ -3,6 +3,7 @@ use Prim.Native.Nat.{ℕ}
 use mathlib.Core.Path.{_≡_}
 use mathlib.Core.List.{List}
 use lib.Ieee.{Float}
+use Rattle.track.specs.declared.track.Track.{Track}
 use Rattle.track.specs.declared.track.TrackMoved.{TrackMoved}
 use Rattle.track.specs.Tracks.{Sent}
 use Rattle.track.specs.Calls.{TrackCall, trackStep}
@@ -12,11 +13,16 @@ use Rattle.timeline.specs.declared.timeline.Moved.{Moved}
 use Rattle.timeline.specs.Calls.{On, withTrack, step, movedBy}
 
 module _ (t : Timeline) (call : TrackCall) where
+  -- a call that answers nothing more than the timeline
+  pub forwards-track : (k : Track) (r : Timeline) → r ≡ withTrack t k → k ≡ trackStep (t .track) call .track → r ≡ step t (On call) .timeline
+  unfolding step
+  forwards-track k r e h = rw (e, h)
+
   -- the answer of play, reset and the seeks
   abbrev pub forwarded : TrackMoved → Moved
   forwarded m = record { refusal = m .refusal; timeline = withTrack t (m .track) }
 
-  pub forwards : (m : TrackMoved) (r : Moved) (k k′ : List ℕ) (a a′ p p′ : List Float) → r ≡ forwarded m → Answers (trackStep (t .track) call) m k k′ a a′ p p′
+  pub forwards-moved : (m : TrackMoved) (r : Moved) (k k′ : List ℕ) (a a′ p p′ : List Float) → r ≡ forwarded m → Answers (trackStep (t .track) call) m k k′ a a′ p p′
       → (r ≡ movedBy (step t (On call))) × Sent (step t (On call) .rows) k k′ a a′ p p′
   unfolding step
-  forwards m r k k′ a a′ p p′ e h = (rw (e, h .0), h .1)
+  forwards-moved m r k k′ a a′ p p′ e h = (rw (e, h .0), h .1)

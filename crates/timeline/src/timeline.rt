@@ -99,7 +99,7 @@ impl Timeline {
         self.push(label, start, duration)
     }
 
-    // What happens at the end of the base.
+    // Sets what happens at the end of the base.
     pub fn looping(self, mode: Loop) -> Timeline
         ensures { λ r. ⌜ r ≡ step self (On (Looping mode)) .timeline ⌝ }
     {
@@ -108,7 +108,7 @@ impl Timeline {
         self.with_track(track)
     }
 
-    // 1.0 is normal speed; negative and NaN become 0.
+    // Sets the speed: 1.0 is normal; negative and NaN become 0.
     pub fn set_time_scale(self, scale: f32) -> Timeline
         ensures { λ r. ⌜ r ≡ step self (On (SetTimeScale scale)) .timeline ⌝ }
     {
@@ -351,7 +351,7 @@ impl Timeline {
         }
     }
 
-    // The run: the base times the number of passes.
+    // The run: the base times the number of passes, infinite for the endless modes.
     pub fn playback_duration(self) -> f32
         ensures { λ r. ⌜ r ≡ trackRun (self .track) ⌝ }
     {

@@ -1,6 +1,7 @@
 -- `known_duration` is `knownDuration`.
-use mathlib.Core.Path.{refl, sym, _∙_}
+use mathlib.Core.Path.{refl, sym, ap, _∙_}
 use Rattle.steps.proofs.Tests.{yes, no}
+use Rattle.timeline.specs.declared.introspection.Duration.the-variants.{Finite}
 use Rattle.timeline.specs.Introspections.{knownDuration}
 use borrow.Author.Needs.{needs}
 use Rattle.timeline.proofs.introspection.known_duration.Statement.{statement}
@@ -14,7 +15,7 @@ max-requires c κs = search needs
 
 returns : tie.Need-returns
 unfolding knownDuration
-returns c = yes _ _ _ _ (sym (c .before .before .is-finite .ensures) ∙ c .before .if1 .taken) (cc)
+returns c = yes _ _ _ _ (sym (c .before .before .is-finite .ensures) ∙ c .before .if1 .taken) (ap Finite (c .max .ensures))
 
 returns-2 : tie.Need-returns-2
 unfolding knownDuration

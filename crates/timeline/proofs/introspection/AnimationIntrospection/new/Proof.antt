@@ -15,7 +15,7 @@ known-duration-requires c κs = search needs
 
 returns : tie.Need-returns
 unfolding introspection
-returns c = cc
+returns c = rw (c .before .before .clamp .ensures, c .before .max .ensures, c .known-duration .ensures)
 
 pub new-spec : {M : Type 1} → statement M
 new-spec = tie.close (tie.spec clamp-requires max-requires known-duration-requires returns)

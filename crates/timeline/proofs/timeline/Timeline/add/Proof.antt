@@ -12,7 +12,7 @@ push-requires c κs = search needs
 
 returns : tie.Need-returns
 unfolding step
-returns c = cc
+returns c = rw (← c .before .resolve-start .ensures) (c .push .ensures)
 
 pub add-spec : {M : Type 1} → statement M
 add-spec = tie.close (tie.spec resolve-start-requires push-requires returns)

@@ -12,7 +12,7 @@ push-requires c κs = search needs
 
 returns : tie.Need-returns
 unfolding step
-returns c = cc
+returns c = rw (← c .before .named-start .ensures) (c .push .ensures)
 
 pub add-at-label-spec : {M : Type 1} → statement M
 add-at-label-spec = tie.close (tie.spec named-start-requires push-requires returns)

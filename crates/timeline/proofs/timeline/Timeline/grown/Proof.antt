@@ -1,4 +1,4 @@
--- `grown` is `grown`.
+-- `grown` is its definition.
 use borrow.Author.Needs.{needs}
 use Rattle.timeline.proofs.timeline.Timeline.grown.Statement.{statement}
 use Rattle.timeline.proofs.timeline.Timeline.grown.Tie as tie
@@ -25,7 +25,7 @@ array-set-from-labels : tie.Need-array-set-from-labels
 array-set-from-labels c = search needs
 
 returns : tie.Need-returns
-returns c = cc
+returns c = rw (c .label-of .ensures, c .before .max .ensures)
 
 pub grown-spec : {M : Type 1} → statement M
 grown-spec =

@@ -24,7 +24,10 @@ new-requires c κs = search needs
 
 returns : tie.Need-returns
 unfolding introspected
-returns c = cc
+returns c =
+    let known = c .before .before .before in
+    rw (← known .before .before .progress .ensures, ← known .before .elapsed .ensures, ← known .playback-duration .ensures, ← c .before .before .state .ensures, ← c .before .playback-state .ensures)
+    (c .new .ensures)
 
 pub introspect-spec : {M : Type 1} → statement M
 introspect-spec =

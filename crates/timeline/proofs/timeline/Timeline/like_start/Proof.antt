@@ -10,7 +10,7 @@ start-found-requires : tie.Need-start-found-requires
 start-found-requires c κs = search needs
 
 returns : tie.Need-returns
-returns c = cc
+returns c = rw (← c .before .find-like .ensures) (c .start-found .ensures)
 
 pub like-start-spec : {M : Type 1} → statement M
 like-start-spec = tie.close (tie.spec find-like-requires start-found-requires returns)

@@ -7,7 +7,7 @@ with-track-requires : tie.Need-with-track-requires
 with-track-requires c κs = search needs
 
 returns : tie.Need-returns
-returns c = cc
+returns c = rw (c .with-track .ensures)
 
 pub moved-spec : {M : Type 1} → statement M
 moved-spec = tie.close (tie.spec with-track-requires returns)

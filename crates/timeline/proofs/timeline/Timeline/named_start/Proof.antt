@@ -12,7 +12,7 @@ start-found-requires c κs = search needs
 
 returns : tie.Need-returns
 unfolding namedStart
-returns c = cc
+returns c = rw (← c .before .find .ensures) (c .start-found .ensures)
 
 pub named-start-spec : {M : Type 1} → statement M
 named-start-spec = tie.close (tie.spec find-requires start-found-requires returns)

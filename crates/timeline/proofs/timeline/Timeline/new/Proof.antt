@@ -15,7 +15,7 @@ new-requires c κs = search needs
 
 returns : tie.Need-returns
 unfolding empty
-returns c = cc
+returns c = rw (c .new .ensures, c .before .label-of .ensures)
 
 pub new-spec : {M : Type 1} → statement M
 new-spec = tie.close (tie.spec slice-aggregate-label-of label-of-requires new-requires returns)

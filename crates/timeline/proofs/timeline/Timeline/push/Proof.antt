@@ -1,5 +1,6 @@
 -- `push` is `addedAt`: 1, then 2, then the entry.
 use mathlib.Core.Path.{sym, ap, _∙_}
+use native.Mathlib.Omega.{arith}
 use Rattle.timeline.specs.declared.timeline.Timeline.{Timeline}
 use Rattle.timeline.specs.Calls.{addedBy}
 use Rattle.timeline.proofs.Growing.{full, too-long, grows}
@@ -8,7 +9,7 @@ use Rattle.timeline.proofs.timeline.Timeline.push.Statement.{statement}
 use Rattle.timeline.proofs.timeline.Timeline.push.Tie as tie
 
 returns : tie.Need-returns
-returns c = sym (ap addedBy (full _ _ _ _ (c .if1 .taken)))
+returns c = sym (ap addedBy (full (c .before .before .before .before .args .self) _ _ _ (omega arith)))
 
 returns-2 : tie.Need-returns-2
 returns-2 c = sym (ap addedBy (too-long _ _ _ _ (c .before .if1 .left) (c .if2 .taken)))

@@ -36,19 +36,19 @@ max-requires-2 c κs = search needs
 
 returns : tie.Need-returns
 unfolding resolveStart
-returns c = cc
+returns c = rw (c .before .before .at .given .1) (c .max .ensures)
 
 returns-2 : tie.Need-returns-2
 unfolding resolveStart
-returns-2 c = cc
+returns-2 c = rw (c .enum-told .given .1)
 
 returns-3 : tie.Need-returns-3
 unfolding resolveStart
-returns-3 c = cc
+returns-3 c = rw (c .before .enum-told2 .given .1) (c .duration .ensures)
 
 returns-4 : tie.Need-returns-4
 unfolding resolveStart
-returns-4 c = cc
+returns-4 c = rw (c .before .before .at2 .given .1) (c .like-start .ensures)
 
 returns-5 : tie.Need-returns-5
 unfolding resolveStart

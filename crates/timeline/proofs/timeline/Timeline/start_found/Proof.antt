@@ -16,10 +16,10 @@ duration-requires : tie.Need-duration-requires
 duration-requires c κs = search needs
 
 returns : tie.Need-returns
-returns c = cc
+returns c = rw (c .before .before .found .given .1) (c .start-at .ensures)
 
 returns-2 : tie.Need-returns-2
-returns-2 c = cc
+returns-2 c = rw (c .before .enum-told .given .1) (c .duration .ensures)
 
 pub start-found-spec : {M : Type 1} → statement M
 start-found-spec =
