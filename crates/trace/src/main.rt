@@ -1,5 +1,10 @@
 // Runs scripts of calls on timelines and prints what each call leaves, so that it can be compared with what the Rust leaves.
-// Standard input and output are as docs/TRACE.md says.
+//
+// Standard input is a byte, 0 for text and 1 for digests, and then scripts: a u32 n, little-endian, and n bytes of calls, each a
+// call byte (calls.rt) and its operands (read.rt). Each script starts from the empty timeline. For each call a line is written,
+// and then lines of what it sent, listed or answered (lines.rt). A call whose operands run past the script or are not allowed, and
+// an unknown one, is not made: the line `cut` is written, and the rest of the script is passed over. In place of a script's text
+// its digest can be written, FNV-1a in eight hex digits.
 mod calls;
 mod lines;
 mod read;
