@@ -1,0 +1,303 @@
+// One call of a script: its operands are read, it is made, and its lines are printed.
+use crate::lines;
+use crate::read;
+use crate::read::Cursor;
+use crate::read::Placement;
+use crate::read::ROWS;
+use crate::read::Room;
+use crate::read::Span;
+use crate::read::least;
+use crate::text::BUFFER;
+use crate::text::Sink;
+use steps::MAX_ENTRIES;
+use timeline::timeline::Added;
+use timeline::timeline::At;
+use timeline::timeline::Moved;
+use timeline::timeline::Timeline;
+use track::track::Secs;
+use track::track::Share;
+ghost use mathlib.Core.Path.{_≡_};
+ghost use Prim.Native.Nat.{_≤_};
+ghost use lib.ListN.{length};
+
+// What stands in the lent slices before each call: the bytes, the amounts (bits 4640e400) and the places (c640e400).
+const FRESH: u8 = 238;
+
+const AMOUNT: f32 = 12345.0;
+
+const PLACE: f32 = -12345.0;
+
+// A script at a call: the call's number and byte, where to read on, and what the calls before it left.
+pub struct Run {
+    pub number: usize,
+    pub byte: u32,
+    pub cursor: Cursor,
+    pub sink: Sink,
+    pub timeline: Timeline,
+}
+
+impl Run {
+    pub fn new(sink: Sink) -> Run {
+        Run {
+            number: 0,
+            byte: 0,
+            cursor: Cursor::new(),
+            sink,
+            timeline: Timeline::new(),
+        }
+    }
+
+    // The run at its next call, whose operands are behind the cursor.
+    fn at_call(self, number: usize, byte: u32, cursor: Cursor) -> Run {
+        let sink = self.sink;
+        let timeline = self.timeline;
+        Run {
+            number,
+            byte,
+            cursor,
+            sink,
+            timeline,
+        }
+    }
+
+    // The call is not made.
+    fn cut(self) -> Run {
+        let cursor = self.cursor;
+        let stopped = cursor.cut();
+        let mut r = self;
+        r.cursor = stopped;
+        r
+    }
+
+    // The call was made, and left this.
+    fn after(self, cursor: Cursor, sink: Sink, timeline: Timeline) -> Run {
+        Run {
+            number: self.number,
+            byte: self.byte,
+            cursor,
+            sink,
+            timeline,
+        }
+    }
+
+    // Prints the line of the call, which left this timeline.
+    fn line(self, buffer: &mut [u8; BUFFER], refusal: u8, timeline: Timeline) -> Sink {
+        let sink = self.sink;
+        lines::call(sink, buffer, self.number, self.byte, refusal, timeline)
+    }
+}
+
+// Makes the next call.
+pub fn next(script: &[u8], buffer: &mut [u8; BUFFER], number: usize, run: Run) -> Run {
+    let cursor = run.cursor;
+    let read = cursor.byte(script);
+    let byte = read.value;
+    let r = run.at_call(number, byte, read);
+    match byte {
+        0 | 3 | 5 | 6 => moving(script, buffer, r),
+        1 | 2 => steering(buffer, r),
+        7 => scaling(script, buffer, r),
+        8 | 9 => adding(script, buffer, r),
+        10 => looping(script, buffer, r),
+        12 => introspecting(buffer, r),
+        15 => delaying(script, buffer, r),
+        _ => r.cut(),
+    }
+}
+
+// Calls 0, 3, 5 and 6: play, reset, seek, seek_abs.
+fn moving(script: &[u8], buffer: &mut [u8; BUFFER], run: Run) -> Run {
+    let cursor = run.cursor;
+    let to = cursor.word_if(run.byte > 3, script);
+    let room = to.room(script);
+    let next = room.next;
+    if next.whole {
+        return moved(buffer, run, to.float(), room);
+    }
+    run.cut()
+}
+
+fn moved(buffer: &mut [u8; BUFFER], run: Run, to: f32, room: Room) -> Run
+    requires { ⌜ (room .kinds ≤ 300) × (room .amounts ≤ 300) × (room .places ≤ 300) ⌝ }
+{
+    let k = room.kinds;
+    let a = room.amounts;
+    let p = room.places;
+    let mut kinds = fresh_bytes();
+    let mut amounts = fresh_floats(AMOUNT);
+    let mut places = fresh_floats(PLACE);
+    let m = move_by(
+        run.byte,
+        run.timeline,
+        to,
+        &mut kinds[..k],
+        &mut amounts[..a],
+        &mut places[..p],
+    );
+    let s = run.line(buffer, m.refusal, m.timeline);
+    let s = lines::rows(s, buffer, &kinds, &amounts, &places, room);
+    run.after(room.next, s, m.timeline)
+}
+
+fn fresh_bytes() -> [u8; ROWS]
+    ensures { λ r. ⌜ 300 ≡ length r ⌝ }
+{
+    [FRESH; ROWS]
+}
+
+fn fresh_floats(x: f32) -> [f32; ROWS]
+    ensures { λ r. ⌜ 300 ≡ length r ⌝ }
+{
+    [x; ROWS]
+}
+
+fn move_by(
+    byte: u32,
+    t: Timeline,
+    to: f32,
+    kinds: &mut [u8],
+    amounts: &mut [f32],
+    places: &mut [f32],
+) -> Moved {
+    match byte {
+        0 => t.play(kinds, amounts, places),
+        3 => t.reset(kinds, amounts, places),
+        5 => t.seek(Share(to), kinds, amounts, places),
+        _ => t.seek_abs(Secs(to), kinds, amounts, places),
+    }
+}
+
+// A call without a refusal and rows left this timeline.
+fn set(buffer: &mut [u8; BUFFER], run: Run, cursor: Cursor, t: Timeline) -> Run {
+    let s = run.line(buffer, refusal::ACCEPTED, t);
+    run.after(cursor, s, t)
+}
+
+// Calls 1 and 2: pause and resume.
+fn steering(buffer: &mut [u8; BUFFER], run: Run) -> Run {
+    let t = run.timeline;
+    if run.byte == 1 {
+        return set(buffer, run, run.cursor, t.pause());
+    }
+    set(buffer, run, run.cursor, t.resume())
+}
+
+// Call 7: set_time_scale.
+fn scaling(script: &[u8], buffer: &mut [u8; BUFFER], run: Run) -> Run {
+    let t = run.timeline;
+    let cursor = run.cursor;
+    let scale = cursor.word(script);
+    if scale.whole {
+        return set(buffer, run, scale, t.set_time_scale(scale.float()));
+    }
+    run.cut()
+}
+
+// Call 10: looping.
+fn looping(script: &[u8], buffer: &mut [u8; BUFFER], run: Run) -> Run {
+    let t = run.timeline;
+    let cursor = run.cursor;
+    let read = cursor.looping(script);
+    let mode = read.mode;
+    let next = read.next;
+    if next.whole {
+        return set(buffer, run, next, t.looping(mode));
+    }
+    run.cut()
+}
+
+// Calls 8 and 9: add and add_boxed_with_duration.
+fn adding(script: &[u8], buffer: &mut [u8; BUFFER], run: Run) -> Run {
+    let cursor = run.cursor;
+    let label = cursor.label(script);
+    let after_label = label.next;
+    let place = after_label.placement(script);
+    let after_place = place.next;
+    let duration = after_place.word(script);
+    if duration.whole {
+        let made = add(
+            script,
+            run.byte,
+            run.timeline,
+            label,
+            place,
+            duration.float(),
+        );
+        let s = run.line(buffer, made.refusal, made.timeline);
+        let s = lines::entries(s, buffer, made.timeline);
+        return run.after(duration, s, made.timeline);
+    }
+    run.cut()
+}
+
+fn add(
+    script: &[u8],
+    byte: u32,
+    t: Timeline,
+    label: Span,
+    place: Placement,
+    duration: f32,
+) -> Added {
+    let text = read::bytes(script, label);
+    if place.kind == 3 {
+        let name = read::bytes(script, place.name);
+        if byte == 8 {
+            return t.add_at_label(text, name, duration);
+        }
+        return t.add_boxed_with_duration(text, At::Label(last_named(t, name)), duration);
+    }
+    let at = at_of(place.kind, place.secs);
+    if byte == 8 {
+        return t.add(text, at, duration);
+    }
+    t.add_boxed_with_duration(text, at, duration)
+}
+
+// The placements that name no label, in their order.
+fn at_of(kind: u32, secs: f32) -> At {
+    match kind {
+        0 => At::Absolute(secs),
+        1 => At::Start,
+        2 => At::End,
+        _ => At::Offset(secs),
+    }
+}
+
+// The last entry with this label, or the count.
+fn last_named(t: Timeline, name: &[u8]) -> usize {
+    let n = least(t.entry_count(), MAX_ENTRIES);
+    let labels = t.labels;
+    let mut last = n;
+    let mut i = 0;
+    while i < n {
+        if label::has_text(labels[i], name) {
+            last = i;
+        }
+        i += 1;
+    }
+    last
+}
+
+// Call 12: introspect.
+fn introspecting(buffer: &mut [u8; BUFFER], run: Run) -> Run {
+    let t = run.timeline;
+    let s = run.line(buffer, refusal::ACCEPTED, t);
+    let s = lines::introspect(s, buffer, t.introspect());
+    run.after(run.cursor, s, t)
+}
+
+// Call 15: delay.
+fn delaying(script: &[u8], buffer: &mut [u8; BUFFER], run: Run) -> Run {
+    let cursor = run.cursor;
+    let read = cursor.pattern(script);
+    let pattern = read.pattern;
+    let after_pattern = read.next;
+    let index = after_pattern.word(script);
+    if index.whole {
+        let found = pattern.delay(index.value);
+        let s = run.line(buffer, found.refusal, run.timeline);
+        let s = lines::delay(s, buffer, found.delay);
+        return run.after(index, s, run.timeline);
+    }
+    run.cut()
+}
