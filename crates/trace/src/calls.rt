@@ -89,7 +89,7 @@ impl Run {
     }
 }
 
-// Makes the next call. Cut so far: update and preview (4 and 11), the calls of a group (13 and 14) and the builders (16 to 20).
+// Makes the next call. Cut so far: the calls of a group (13 and 14) and the builders (16 to 20).
 pub fn next(script: &[u8], buffer: &mut [u8; BUFFER], number: usize, run: Run) -> Run {
     let cursor = run.cursor;
     let read = cursor.byte(script);
