@@ -2,10 +2,12 @@
 use crate::lines;
 use crate::read;
 use crate::read::Cursor;
+use crate::read::LIST;
 use crate::read::Placement;
 use crate::read::ROWS;
 use crate::read::Room;
 use crate::read::Span;
+use crate::read::Update;
 use crate::read::least;
 use crate::text::BUFFER;
 use crate::text::Sink;
@@ -87,15 +89,16 @@ impl Run {
     }
 }
 
-// Makes the next call.
+// Makes the next call. Cut so far: the calls of a group (13 and 14) and the builders (16 to 20).
 pub fn next(script: &[u8], buffer: &mut [u8; BUFFER], number: usize, run: Run) -> Run {
     let cursor = run.cursor;
     let read = cursor.byte(script);
     let byte = read.value;
     let r = run.at_call(number, byte, read);
     match byte {
-        0 | 3 | 5 | 6 => moving(script, buffer, r),
+        0 | 3 | 5 | 6 | 11 => moving(script, buffer, r),
         1 | 2 => steering(buffer, r),
+        4 => updating(script, buffer, r),
         7 => scaling(script, buffer, r),
         8 | 9 => adding(script, buffer, r),
         10 => looping(script, buffer, r),
@@ -105,7 +108,7 @@ pub fn next(script: &[u8], buffer: &mut [u8; BUFFER], number: usize, run: Run) -
     }
 }
 
-// Calls 0, 3, 5 and 6: play, reset, seek, seek_abs.
+// Calls 0, 3, 5, 6 and 11: play, reset, seek, seek_abs and preview.
 fn moving(script: &[u8], buffer: &mut [u8; BUFFER], run: Run) -> Run {
     let cursor = run.cursor;
     let to = cursor.word_if(run.byte > 3, script);
@@ -163,8 +166,69 @@ fn move_by(
         0 => t.play(kinds, amounts, places),
         3 => t.reset(kinds, amounts, places),
         5 => t.seek(Share(to), kinds, amounts, places),
-        _ => t.seek_abs(Secs(to), kinds, amounts, places),
+        6 => t.seek_abs(Secs(to), kinds, amounts, places),
+        _ => preview(t, to, kinds, amounts, places),
     }
+}
+
+// The preview leaves the timeline as it was.
+fn preview(
+    t: Timeline,
+    dt: f32,
+    kinds: &mut [u8],
+    amounts: &mut [f32],
+    places: &mut [f32],
+) -> Moved {
+    let refusal = t.preview(dt, kinds, amounts, places);
+    Moved {
+        refusal,
+        timeline: t,
+    }
+}
+
+// Call 4: update.
+fn updating(script: &[u8], buffer: &mut [u8; BUFFER], run: Run) -> Run {
+    let cursor = run.cursor;
+    let u = cursor.update(script);
+    let next = u.next;
+    if next.whole {
+        return updated(script, buffer, run, u);
+    }
+    run.cut()
+}
+
+fn updated(script: &[u8], buffer: &mut [u8; BUFFER], run: Run, u: Update) -> Run
+    requires { ⌜ (u .room .kinds ≤ 300) × (u .room .amounts ≤ 300) × (u .room .places ≤ 300) × (u .list ≤ 1000) ⌝ }
+{
+    let t = run.timeline;
+    let span = u.replies;
+    let room = u.room;
+    let k = room.kinds;
+    let a = room.amounts;
+    let p = room.places;
+    let l = u.list;
+    let mut kinds = fresh_bytes();
+    let mut amounts = fresh_floats(AMOUNT);
+    let mut places = fresh_floats(PLACE);
+    let mut list = fresh_list();
+    let m = t.update(
+        u.dt,
+        read::bytes(script, span),
+        &mut list[..l],
+        &mut kinds[..k],
+        &mut amounts[..a],
+        &mut places[..p],
+    );
+    let s = run.line(buffer, m.refusal, m.timeline);
+    let s = lines::rows(s, buffer, &kinds, &amounts, &places, room);
+    let s = lines::update(s, buffer, m, &list, l);
+    run.after(u.next, s, m.timeline)
+}
+
+fn fresh_list() -> [u8; LIST]
+    ensures { λ r. ⌜ 1000 ≡ length r ⌝ }
+{
+    [FRESH; LIST]
 }
 
 // A call without a refusal and rows left this timeline.

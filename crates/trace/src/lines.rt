@@ -1,4 +1,5 @@
 // The lines that a call prints.
+use crate::read::LIST;
 use crate::read::ROWS;
 use crate::read::Room;
 use crate::read::least;
@@ -14,8 +15,8 @@ use timeline::introspection::AnimationKind;
 use timeline::introspection::Duration;
 use timeline::introspection::PlaybackState;
 use timeline::timeline::Timeline;
+use timeline::timeline::Updated;
 use track::clock::TimelineState;
-ghost use Prim.Native.Nat.{_≤_};
 
 // `i call refusal state elapsed scale fired count base run progress marks`
 pub fn call(
@@ -85,10 +86,8 @@ pub fn rows(
     amounts: &[f32; ROWS],
     places: &[f32; ROWS],
     room: Room,
-) -> Sink
-    requires { ⌜ (room .kinds ≤ 300) × (room .amounts ≤ 300) × (room .places ≤ 300) ⌝ }
-{
-    let n = most(most(room.kinds, room.amounts), room.places);
+) -> Sink {
+    let n = least(most(most(room.kinds, room.amounts), room.places), ROWS);
     let mut s = sink.bytes(buffer, b"  rows");
     let mut i = 0;
     while i < n {
@@ -100,10 +99,7 @@ pub fn rows(
     s.byte(buffer, b'\n')
 }
 
-fn most(a: usize, b: usize) -> usize
-    requires { ⌜ (a ≤ 300) × (b ≤ 300) ⌝ }
-    ensures { λ r. ⌜ r ≤ 300 ⌝ }
-{
+fn most(a: usize, b: usize) -> usize {
     if a < b { b } else { a }
 }
 
@@ -121,6 +117,31 @@ fn part(sink: Sink, buffer: &mut [u8; BUFFER], there: bool, x: f32) -> Sink {
         return sink.float(buffer, b':', x);
     }
     sink.letter(buffer, b':', b'.')
+}
+
+// `  update running completed listed` and each byte of the list.
+pub fn update(
+    sink: Sink,
+    buffer: &mut [u8; BUFFER],
+    made: Updated,
+    list: &[u8; LIST],
+    len: usize,
+) -> Sink {
+    let n = least(len, LIST);
+    let s = sink.bytes(buffer, b"  update");
+    let s = s.letter(buffer, b' ', digit(made.running));
+    let s = s.letter(buffer, b' ', digit(made.completed));
+    let mut s = s.number(buffer, b' ', made.listed);
+    let mut i = 0;
+    while i < n {
+        s = s.number(buffer, b' ', wide(list[i]));
+        i += 1;
+    }
+    s.byte(buffer, b'\n')
+}
+
+fn wide(byte: u8) -> usize {
+    byte as usize
 }
 
 // `  entries` and each entry.

@@ -8,6 +8,9 @@ ghost use Prim.Native.Nat.{_<_, _≤_};
 // How many places of each row slice are lent at most.
 pub const ROWS: usize = 300;
 
+// How many places of the list are lent at most.
+pub const LIST: usize = 1000;
+
 // How many replies there are at most.
 const REPLIES: u32 = 300;
 
@@ -30,6 +33,15 @@ pub struct Room {
     pub kinds: usize,
     pub amounts: usize,
     pub places: usize,
+    pub next: Cursor,
+}
+
+// What an update is handed: the step, the places of the row slices and of the list that are lent, and the replies.
+pub struct Update {
+    pub dt: f32,
+    pub room: Room,
+    pub list: usize,
+    pub replies: Span,
     pub next: Cursor,
 }
 
@@ -168,7 +180,7 @@ impl Cursor {
     }
 
     // The replies: their number, then a byte each.
-    pub fn replies(self, script: &[u8]) -> Span {
+    fn replies(self, script: &[u8]) -> Span {
         let len = self.half(script);
         let allowed = len.at_most(REPLIES);
         allowed.span(script)
@@ -185,6 +197,24 @@ impl Cursor {
             amounts: least(amounts.value as usize, ROWS),
             places: least(places.value as usize, ROWS),
             next: places,
+        }
+    }
+
+    pub fn update(self, script: &[u8]) -> Update
+        ensures { λ r. ⌜ (r .room .kinds ≤ 300) × (r .room .amounts ≤ 300) × (r .room .places ≤ 300) × (r .list ≤ 1000) ⌝ }
+    {
+        let dt = self.word(script);
+        let room = dt.room(script);
+        let after_room = room.next;
+        let list = after_room.half(script);
+        let replies = list.replies(script);
+        let next = replies.next;
+        Update {
+            dt: dt.float(),
+            room,
+            list: least(list.value as usize, LIST),
+            replies,
+            next,
         }
     }
 

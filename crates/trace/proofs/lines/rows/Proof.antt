@@ -11,10 +11,13 @@ abbrev μ-loop : tie.MeasureT-loop
 μ-loop buffer₀ kinds amounts places room n s₀ i₀ buffer s i = n - i
 
 most-requires : tie.Need-most-requires Inv-loop μ-loop
-most-requires c κs = omega arith
+most-requires c κs = tt
 
 most-requires-2 : tie.Need-most-requires-2 Inv-loop μ-loop
-most-requires-2 c κs = omega arith
+most-requires-2 c κs = tt
+
+least-requires : tie.Need-least-requires Inv-loop μ-loop
+least-requires c κs = tt
 
 slice-aggregate-bytes : tie.Need-slice-aggregate-bytes Inv-loop μ-loop
 slice-aggregate-bytes c = omega arith
@@ -72,6 +75,7 @@ rows-spec =
     μ-loop
     most-requires
     most-requires-2
+    least-requires
     slice-aggregate-bytes
     bytes-requires
     loop-holds
