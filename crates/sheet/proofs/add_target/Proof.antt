@@ -16,7 +16,7 @@ returns : tie.Need-returns
 returns c =
     let a = c .before .before .args in
     let h : length (a .t2) ≡ maxEntries = search (unmapped, needs) in
-    let e = named-none (a .n) (a .k) (a .t2) (a .item) (omega arith) (c .before .if1 .taken) in
+    let e = named-none (a .n) (a .k) (a .t2) (a .item) (omega arith) (omega arith) in
     rw e (c .add-placed .ensures)
 
 mul-target : tie.Need-mul-target
@@ -32,7 +32,7 @@ returns-2 : tie.Need-returns-2
 returns-2 c =
     let a = c .before .before .before .args in
     let h : length (a .t2) ≡ maxEntries = search (unmapped, needs) in
-    let e = named-some (a .n) (a .k) (a .t2) (a .item) (omega arith) (c .before .before .if1 .left) in
+    let e = named-some (a .n) (a .k) (a .t2) (a .item) (omega arith) (omega arith) in
     rw e (c .add-named .ensures)
 
 pub add-target-spec : {M : Type 1} → statement M

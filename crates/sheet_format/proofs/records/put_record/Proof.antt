@@ -1,4 +1,6 @@
 -- Four bytes and two words, one after the other.
+use Prim.Native.Nat.{ℕ, _+_}
+use mathlib.Core.List.{List, [], _∷_}
 use Prim.Native.Nat.{_+_}
 use mathlib.Core.Path.{refl}
 use native.Mathlib.Omega.{arith}
@@ -42,8 +44,9 @@ returns : tie.Need-returns
 unfolding recordOf
 returns c =
     let s = c .before .before .before .before .before .before .before .before .before .before .before .before .before .before .before .before in
+    let four : List ℕ = c .before .before .before .before .before .before .before .before .before .before .before .before .before .kind-of .result ∷ c .before .before .before .before .before .before .before .before .before .before .before .before .target-of .result ∷ 0 ∷ 0 ∷ [] in
     rw (← c .before .before .before .before .before .before .before .before .before .before .before .before .before .kind-of .ensures, ← c .before .before .before .before .before .before .before .before .before .before .before .before .target-of .ensures, ← c .before .before .before .before .before .before .before .seconds-of .ensures)
-    (over-twelve _ _ _ (s .args .at) (s .args .at + 4) (s .args .at + 8) _ _ _ _ refl (c .before .before .before .before .before .before .before .before .before .before .before .put-four .ensures) (c .before .before .before .before .before .before .put-u32 .ensures) (c .before .before .put-u322 .ensures) refl refl (omega arith))
+    (over-twelve four _ _ (s .args .at) (s .args .at + 4) (s .args .at + 8) _ _ _ _ refl (c .before .before .before .before .before .before .before .before .before .before .before .put-four .ensures) (c .before .before .before .before .before .before .put-u32 .ensures) (c .before .before .put-u322 .ensures) refl refl (omega arith))
 
 pub put-record-spec : {M : Type 1} → statement M
 put-record-spec =
