@@ -21,8 +21,7 @@ fn main() {
 // Carries the table, so that it cannot leave the check.
 fn edges_hold()
     ensures { λ r. ⌜ T (allHold edges) ⌝ }
-{
-}
+{}
 
 // The refusal of the last of n entries.
 fn filled(n: usize) -> u8 {
