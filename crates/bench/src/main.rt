@@ -76,8 +76,10 @@ fn come_to(job: u8, entries: u8, turns: u32) -> f32 {
     let t = played(built(entries, mode));
     let base = t.duration();
     match job {
-        4 => seeks_abs(t, base, turns),
-        5 => seeks_abs(t, base, turns),
+        0 => updates(t, base / float32::from_u32(turns) * 0.9, turns),
+        1 => updates(t, base * 0.1, turns),
+        2 | 3 => updates(t, base, turns),
+        4 | 5 => seeks_abs(t, base, turns),
         6 => seeks(t, turns),
         _ => 0.0,
     }
@@ -128,6 +130,35 @@ fn seeks(from: Timeline, turns: u32) -> f32 {
     while turn < turns {
         let share = float32::from_u32(turn % 1000) * 0.001;
         t = seek(t, share, &mut kinds, &mut amounts, &mut places);
+        turn += 1;
+    }
+    t.elapsed()
+}
+
+fn update(
+    t: Timeline,
+    dt: f32,
+    list: &mut [u8; 256],
+    kinds: &mut [u8; 64],
+    amounts: &mut [f32; 64],
+    places: &mut [f32; 64],
+) -> Timeline {
+    let replies = [1u8; 64];
+    let u = t.update(dt, &replies, list, kinds, amounts, places);
+    let after = u.timeline;
+    if u.running { after } else { played(after) }
+}
+
+// Updates, and `play` wherever the run ends.
+fn updates(from: Timeline, dt: f32, turns: u32) -> f32 {
+    let mut t = from;
+    let mut list = [0u8; 256];
+    let mut kinds = [0u8; 64];
+    let mut amounts = [0.0f32; 64];
+    let mut places = [0.0f32; 64];
+    let mut turn = 0u32;
+    while turn < turns {
+        t = update(t, dt, &mut list, &mut kinds, &mut amounts, &mut places);
         turn += 1;
     }
     t.elapsed()
