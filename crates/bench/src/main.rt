@@ -1,6 +1,6 @@
 // Makes many calls on a timeline, to be timed beside the Rust (`oracle bench`).
 //
-// Standard input: which job (0 to 7), how many entries, and how many calls as a u32, little-endian. It prints the elapsed time that
+// Standard input: which job (0 to 8), how many entries, and how many calls as a u32, little-endian. It prints the elapsed time that
 // they come to, or the base where entries are added, as the eight hex digits of its bits. No input: nothing is done.
 ghost use Prim.Native.Nat.{_<_};
 use libc::STDIN_FILENO;
@@ -72,6 +72,9 @@ fn come_to(job: u8, entries: u8, turns: u32) -> f32 {
     let mode = mode_of(job);
     if job == 7 {
         return adds(entries, mode, divided(turns, entries));
+    }
+    if job == 8 {
+        return walks(worst(entries), turns);
     }
     let t = played(built(entries, mode));
     let base = t.duration();
@@ -159,6 +162,55 @@ fn updates(from: Timeline, dt: f32, turns: u32) -> f32 {
     let mut turn = 0u32;
     while turn < turns {
         t = update(t, dt, &mut list, &mut kinds, &mut amounts, &mut places);
+        turn += 1;
+    }
+    t.elapsed()
+}
+
+// Entries so short, at a second so late, that an update by three units in the last place walks over 642 cycles, 385 of them
+// without a completion, before it is known that they outnumber a list of 256: the longest walk found.
+fn worst(entries: u8) -> Timeline {
+    let mut t = Timeline::new().looping(Loop::Forever);
+    let mut i = 0u8;
+    while i < entries {
+        let added = t.add(b"item", At::Start, 1.35093146e-8);
+        t = added.timeline;
+        i += 1;
+    }
+    let mut kinds = [0u8; 64];
+    let mut amounts = [0.0f32; 64];
+    let mut places = [0.0f32; 64];
+    seek_abs(
+        played(t),
+        float32::from_bits(0x4235_57d7),
+        &mut kinds,
+        &mut amounts,
+        &mut places,
+    )
+}
+
+fn walk(
+    t: Timeline,
+    list: &mut [u8; 256],
+    kinds: &mut [u8; 64],
+    amounts: &mut [f32; 64],
+    places: &mut [f32; 64],
+) -> Timeline {
+    let replies = [1u8; 64];
+    let u = t.update(1.1444092e-5, &replies, list, kinds, amounts, places);
+    u.timeline
+}
+
+// Updates that are refused by 5.
+fn walks(from: Timeline, turns: u32) -> f32 {
+    let mut t = from;
+    let mut list = [0u8; 256];
+    let mut kinds = [0u8; 64];
+    let mut amounts = [0.0f32; 64];
+    let mut places = [0.0f32; 64];
+    let mut turn = 0u32;
+    while turn < turns {
+        t = walk(t, &mut list, &mut kinds, &mut amounts, &mut places);
         turn += 1;
     }
     t.elapsed()
