@@ -9,7 +9,7 @@ use timeline::timeline::Timeline;
 use track::track::Share;
 use tween::StaggerPattern;
 ghost use mathlib.Core.Path.{_≡_};
-ghost use Rattle.track.specs.Clocks.{isCompleted};
+ghost use Rattle.clock.specs.Clocks.{isCompleted};
 ghost use Rattle.track.specs.Tracks.{progressOf, Sent};
 ghost use Rattle.track.specs.Calls.{SetTimeScale, Play, Pause, Resume, Reset, Seek, roomOf};
 ghost use Rattle.timeline.specs.Calls.{On, step, movedBy};

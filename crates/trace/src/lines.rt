@@ -16,7 +16,7 @@ use timeline::introspection::Duration;
 use timeline::introspection::PlaybackState;
 use timeline::timeline::Timeline;
 use timeline::timeline::Updated;
-use track::clock::TimelineState;
+use clock::TimelineState;
 
 // `i call refusal state elapsed scale fired count base run progress marks`
 pub fn call(
