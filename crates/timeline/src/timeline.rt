@@ -1,12 +1,12 @@
 // Timelines (timeline.rs), in the Rust's order.
 use crate::introspection::AnimationIntrospection;
 use crate::introspection::AnimationKind;
+use clock::TimelineState;
 use label::Found;
 use label::Label;
 use label::MAX_LABEL;
 use steps::Entry;
 use steps::MAX_ENTRIES;
-use clock::TimelineState;
 use track::track::Secs;
 use track::track::Share;
 use track::track::Track;

@@ -6,6 +6,7 @@ use crate::read::least;
 use crate::text::BUFFER;
 use crate::text::Sink;
 use crate::text::digit;
+use clock::TimelineState;
 use label::Label;
 use label::MAX_LABEL;
 use steps::Entry;
@@ -16,7 +17,6 @@ use timeline::introspection::Duration;
 use timeline::introspection::PlaybackState;
 use timeline::timeline::Timeline;
 use timeline::timeline::Updated;
-use clock::TimelineState;
 
 // `i call refusal state elapsed scale fired count base run progress marks`
 pub fn call(
