@@ -9,6 +9,7 @@ mod debug;
 mod floats;
 mod leaf;
 mod port;
+mod reader;
 mod record;
 mod rng;
 mod rules;
