@@ -8,6 +8,7 @@
 // A description's floats are given by their bits. Those of a timeline have 7fc00000 for NaN and 00000000 for either zero.
 use crate::text;
 use crate::text::TEXT;
+use crate::text::least;
 use label::Label;
 use label::MAX_LABEL;
 use refusal::ACCEPTED;
@@ -19,7 +20,6 @@ use steps::MAX_ENTRIES;
 use timeline::timeline::Timeline;
 use track::clock::TimelineState;
 use tween::Loop;
-ghost use Prim.Native.Nat.{_≤_};
 
 // The longest sheet.
 pub const SHEET: usize = 4096;
@@ -27,17 +27,9 @@ pub const SHEET: usize = 4096;
 // What the room holds before a sheet is written.
 const OLD: u8 = 238;
 
-pub fn least(n: usize, top: usize) -> usize
-    ensures { λ r. ⌜ r ≤ top ⌝ }
-{
-    if n < top { n } else { top }
-}
-
-// The lines of the first n bytes.
-pub fn sheet(out: &mut [u8; TEXT], start: usize, sheet: &[u8; SHEET], n: usize) -> usize {
-    let len = least(n, SHEET);
-    let bytes: &[u8] = sheet;
-    let reading = sheet::read(&bytes[..len]);
+// The lines of a sheet.
+pub fn sheet(out: &mut [u8; TEXT], start: usize, bytes: &[u8]) -> usize {
+    let reading = sheet::read(bytes);
     let d = reading.described;
     let t = reading.timeline;
     let at = text::decimal(out, start, reading.refusal as usize);
@@ -46,9 +38,10 @@ pub fn sheet(out: &mut [u8; TEXT], start: usize, sheet: &[u8; SHEET], n: usize) 
     if reading.refusal != ACCEPTED {
         return at;
     }
-    let at = written(out, at, sheet, d, len + 8);
-    let at = written(out, at, sheet, d, len);
-    written(out, at, sheet, d, one_less(len))
+    let len = least(bytes.len(), SHEET);
+    let at = written(out, at, bytes, d, len + 8);
+    let at = written(out, at, bytes, d, len);
+    written(out, at, bytes, d, one_less(len))
 }
 
 fn one_less(n: usize) -> usize {
@@ -190,13 +183,7 @@ fn entry(out: &mut [u8; TEXT], start: usize, e: Entry, label: Label) -> usize {
 }
 
 // Writes the description where there is room for `size` bytes.
-fn written(
-    out: &mut [u8; TEXT],
-    start: usize,
-    sheet: &[u8; SHEET],
-    d: Description,
-    size: usize,
-) -> usize {
+fn written(out: &mut [u8; TEXT], start: usize, sheet: &[u8], d: Description, size: usize) -> usize {
     let mut room = [OLD; SHEET];
     let n = least(size, SHEET);
     let made = sheet_format::write(d, &mut room[..n]);
@@ -208,11 +195,17 @@ fn written(
     text::byte(out, at, b'\n')
 }
 
-// Whether the first n bytes are the same.
-fn same(a: &[u8; SHEET], b: &[u8; SHEET], n: usize) -> bool {
+// Whether the room starts with the first n bytes of the sheet.
+fn same(sheet: &[u8], room: &[u8; SHEET], n: usize) -> bool {
+    if n > sheet.len() {
+        return false;
+    }
+    if n > SHEET {
+        return false;
+    }
     let mut i = 0;
-    while i < n && i < SHEET {
-        if a[i] != b[i] {
+    while i < n {
+        if sheet[i] != room[i] {
             return false;
         }
         i += 1;
@@ -222,8 +215,9 @@ fn same(a: &[u8; SHEET], b: &[u8; SHEET], n: usize) -> bool {
 
 // Whether the room is as it was from one place to another.
 fn rest(room: &[u8; SHEET], from: usize, to: usize) -> bool {
+    let end = least(to, SHEET);
     let mut i = from;
-    while i < to && i < SHEET {
+    while i < end {
         if room[i] != OLD {
             return false;
         }

@@ -11,6 +11,8 @@ use libc::STDIN_FILENO;
 use libc::STDOUT_FILENO;
 use lines::SHEET;
 use text::TEXT;
+ghost use Prim.Native.Nat.{_<_, _≤_};
+ghost use lib.ListN.{length};
 
 fn main() {
     let mut form = [0u8; 1];
@@ -32,7 +34,7 @@ fn sheets(as_text: bool) {
 }
 
 // Answers the next sheet, and says whether there may be more.
-fn next_sheet(sheet: &mut [u8; SHEET], out: &mut [u8; TEXT], as_text: bool, number: usize) -> bool {
+fn next_sheet(sheet: &mut [u8], out: &mut [u8; TEXT], as_text: bool, number: usize) -> bool {
     let mut head = [0u8; 4];
     let got = io::read_full(STDIN_FILENO, &mut head);
     if got == 0 {
@@ -40,14 +42,23 @@ fn next_sheet(sheet: &mut [u8; SHEET], out: &mut [u8; TEXT], as_text: bool, numb
     }
     let n = word(&head);
     let start = header(out, number);
-    if got < 4 || n > SHEET || !fill(sheet, n) {
-        let end = text::bytes(out, start, b"cut\n");
-        print(out, start, end, as_text);
-        return false;
+    if got < 4 || n > sheet.len() {
+        return cut(out, start, as_text);
     }
-    let end = lines::sheet(out, start, sheet, n);
+    let there = fill(sheet, n);
+    if there < n {
+        return cut(out, start, as_text);
+    }
+    let end = lines::sheet(out, start, &sheet[..there]);
     print(out, start, end, as_text);
     true
+}
+
+// Prints that a sheet is cut. There are no more.
+fn cut(out: &mut [u8; TEXT], start: usize, as_text: bool) -> bool {
+    let end = text::bytes(out, start, b"cut\n");
+    print(out, start, end, as_text);
+    false
 }
 
 // The four bytes, little-endian.
@@ -55,14 +66,19 @@ fn word(b: &[u8; 4]) -> usize {
     wide(b[0]) + wide(b[1]) * 256 + wide(b[2]) * 65_536 + wide(b[3]) * 16_777_216
 }
 
-fn wide(byte: u8) -> usize {
+fn wide(byte: u8) -> usize
+    ensures { λ r. ⌜ r < 256 ⌝ }
+{
     byte as usize
 }
 
-// Reads n bytes, and says whether they are there.
-fn fill(sheet: &mut [u8; SHEET], n: usize) -> bool {
-    let there = lines::least(n, SHEET);
-    io::read_full(STDIN_FILENO, &mut sheet[..there]) == n
+// Reads n bytes, or as many as there are.
+fn fill(sheet: &mut [u8], n: usize) -> usize
+    requires { ⌜ n ≤ length (now sheet) ⌝ }
+    ensures { λ r. ⌜ r ≤ length (now (sheet .exit)) ⌝ }
+{
+    let got = io::read_full(STDIN_FILENO, &mut sheet[..n]);
+    text::least(got, sheet.len())
 }
 
 // `sheet k`, which is no part of a digest.
@@ -75,7 +91,7 @@ fn header(out: &mut [u8; TEXT], number: usize) -> usize {
 // The text up to `end`, or the digest of what stands from `start` on.
 fn print(out: &[u8; TEXT], start: usize, end: usize, as_text: bool) {
     if as_text {
-        let n = lines::least(end, TEXT);
+        let n = text::least(end, TEXT);
         let bytes: &[u8] = out;
         io::write_all(STDOUT_FILENO, &bytes[..n]);
         return;

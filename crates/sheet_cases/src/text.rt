@@ -1,4 +1,5 @@
 // A text in a buffer that has room for the longest one. Each function puts something at a place and answers the place after it.
+ghost use Prim.Native.Nat.{_≤_};
 
 // The lines of 64 entries are less than 10,000 bytes.
 pub const TEXT: usize = 16_384;
@@ -6,6 +7,12 @@ pub const TEXT: usize = 16_384;
 const FNV_OFFSET: u32 = 0x811c_9dc5;
 
 const FNV_PRIME: u64 = 0x0100_0193;
+
+pub fn least(n: usize, top: usize) -> usize
+    ensures { λ r. ⌜ r ≤ top ⌝ }
+{
+    if n < top { n } else { top }
+}
 
 pub fn byte(out: &mut [u8; TEXT], at: usize, b: u8) -> usize {
     if at < TEXT {
@@ -60,9 +67,10 @@ pub fn float(out: &mut [u8; TEXT], at: usize, x: f32) -> usize {
 
 // FNV-1a of the bytes of a text from one place to another.
 pub fn digest(text: &[u8; TEXT], from: usize, to: usize) -> u32 {
+    let end = least(to, TEXT);
     let mut d = FNV_OFFSET;
     let mut i = from;
-    while i < to && i < TEXT {
+    while i < end {
         d = with_byte(d, text[i]);
         i += 1;
     }
