@@ -294,7 +294,7 @@ pub fn compare(options: &Options) -> Result<(), String> {
 impl Run<'_> {
     /// The good sheet, every bit flipped, every truncation, bytes after the end, other fields.
     fn single_faults(&mut self, sheet: &[u8]) -> Result<(), String> {
-        self.push(sheet.to_vec(), false)?;
+        self.push(sheet.to_vec(), sheet)?;
         let faults = [
             damage::flips,
             damage::cuts,
@@ -302,7 +302,7 @@ impl Run<'_> {
             damage::fields,
         ];
         for fault in faults.iter().flat_map(|faults| faults(sheet)) {
-            self.push(fault.applied(sheet), true)?;
+            self.push(fault.applied(sheet), sheet)?;
         }
         Ok(())
     }
@@ -318,7 +318,7 @@ impl Run<'_> {
             for (other, &other_number) in second.iter().zip(&numbers).skip(start) {
                 if one.beside(other) {
                     self.tally.pair(number, other_number);
-                    self.push(other.applied(&damaged), true)?;
+                    self.push(other.applied(&damaged), sheet)?;
                 }
             }
         }
@@ -329,7 +329,7 @@ impl Run<'_> {
         let rng = &mut self.rng;
         if rng.below(10) == 0 {
             let noise = damage::noise(rng);
-            return self.push(noise, true);
+            return self.push(noise, &[]);
         }
         let good = damage::random(rng);
         let faults = rng.pick(&[1, 1, 2, 2, 2, 3, 4]);
@@ -344,13 +344,13 @@ impl Run<'_> {
             let [one, other] = [one, other].map(|fault| number(&fault.applied(&good)));
             self.tally.pair(one, other);
         }
-        let damaged = sheet != good;
-        self.push(sheet, damaged)
+        self.push(sheet, &good)
     }
 
-    fn push(&mut self, sheet: Vec<u8>, damaged: bool) -> Result<(), String> {
+    /// A sheet, and the good one that it was.
+    fn push(&mut self, sheet: Vec<u8>, good: &[u8]) -> Result<(), String> {
         self.tally.sheets += 1;
-        self.tally.damaged += u64::from(damaged);
+        self.tally.damaged += u64::from(sheet != good);
         self.bytes += sheet.len();
         self.waiting.push(sheet);
         if self.waiting.len() >= BATCH || self.bytes >= BATCH_BYTES {
@@ -455,7 +455,7 @@ fn shown(sheet: &[u8], port: &Port) -> Result<String, String> {
 // The sample
 
 /// Random sheets of the sample, and the longest of them.
-const SAMPLED: usize = 150;
+const SAMPLED: usize = 100;
 const SAMPLED_BYTES: usize = 200;
 
 /// Writes good and damaged sheets, and the answers to them, to where `rt` replays them.
@@ -467,11 +467,13 @@ pub fn write_sample() -> Result<(), String> {
         let faults = [damage::fields(sheet), damage::cuts(sheet)].concat();
         sheets.extend(faults.iter().map(|fault| fault.applied(sheet)));
     }
-    while sheets.len() < SAMPLED {
-        let mut sheet = damage::random(&mut rng);
-        damage::random_fault(&mut rng, &sheet.clone()).apply(&mut sheet);
+    let mut left = SAMPLED;
+    while left > 0 {
+        let good = damage::random(&mut rng);
+        let sheet = damage::random_fault(&mut rng, &good).applied(&good);
         if sheet.len() <= SAMPLED_BYTES {
             sheets.push(sheet);
+            left -= 1;
         }
     }
     let text = text(&sheets);
@@ -484,4 +486,54 @@ pub fn write_sample() -> Result<(), String> {
         text.len()
     );
     Ok(())
+}
+
+#[cfg(test)]
+mod tests {
+    use super::*;
+
+    /// The sheet of paper 01's log, cut and whole: worked out by hand.
+    #[test]
+    fn the_lines_of_a_sheet() {
+        let described = Described {
+            mode: Mode::Once,
+            scale: 0x3f80_0000,
+            entries: vec![
+                entry(At::Start, b"a", 0x3f80_0000),
+                entry(At::End, b"", 0xbf00_0000),
+            ],
+        };
+        let sheet = reader::write(&described);
+        let empty = "  timeline I 00000000 3f800000 0 0 0 0 00000000 00000000\n";
+        let cut = format!("sheet 1\n7 0 0 0 3f800000\n{empty}sheet 2\n");
+        let whole = "0 2 0 0 3f800000\n\
+            \x20 item 1 0 00000000 3f800000 61\n\
+            \x20 item 2 0 00000000 bf000000 -\n\
+            \x20 timeline I 00000000 3f800000 0 0 0 2 3f800000 3f800000\n\
+            \x20 entry 00000000 3f800000 0 61\n\
+            \x20 entry 3f800000 00000000 0 -\n\
+            \x20 write 0 45 1 1\n\
+            \x20 write 0 45 1 1\n\
+            \x20 write 15 0 1 1\n";
+        assert_eq!(text(&[sheet[..44].to_vec(), sheet]), cut + whole);
+    }
+
+    fn entry(at: At, label: &[u8], duration: u32) -> reader::Entry {
+        reader::Entry {
+            at,
+            label: label.to_vec(),
+            duration,
+        }
+    }
+
+    /// Every good sheet is one, and comes back from its description.
+    #[test]
+    fn good_sheets() {
+        let mut rng = Rng::new(3);
+        let random: Vec<Vec<u8>> = (0..1000).map(|_| damage::random(&mut rng)).collect();
+        for sheet in [damage::small(), damage::large(), random].concat() {
+            let described = reader::read(&sheet).expect("a good sheet");
+            assert_eq!(reader::write(&described), sheet);
+        }
+    }
 }
