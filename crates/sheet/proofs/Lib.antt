@@ -1,5 +1,4 @@
 -- Laws of sheets that are read, written and built.
-pub mod Floats
 pub mod Adds
 pub mod Five
 pub mod Rewrite
