@@ -19,6 +19,7 @@ use Rattle.sheet.specs.declared.Reading.{Reading}
 use Rattle.sheet.specs.Build.{readCalls, readingOf}
 use Rattle.sheet.specs.Claim.{ReadsBack, Rewrites, Covered, Claim}
 use Rattle.sheet.proofs.Rewrite.{sheet-same, described-good}
+use Rattle.sheet.proofs.Taken.{taken}
 use Rattle.sheet.proofs.ReadBack.{check-accepts, accepts, says}
 
 -- what the writer accepts can be described, and has room
@@ -58,6 +59,7 @@ covers s =
     let made : readingOf s .timeline ≡ after empty (readCalls s) = chosen (eqb (checkNumber s) 0) _ _ _ refl refl in
     record {
       made = made;
+      taken = taken s;
       seeks = history.covered (readingOf s .timeline) (readCalls s) made;
       sound = history.covered-sound (readingOf s .timeline) (readCalls s) made;
     }

@@ -2,6 +2,7 @@
 pub mod Adds
 pub mod Five
 pub mod Rewrite
+pub mod Taken
 pub mod Readings
 pub mod ReadBack
 pub mod Claim

@@ -421,24 +421,29 @@ fn damaged_end(rng: &mut Rng, sheets: &[Vec<u8>]) -> (Vec<u8>, bool) {
     (bytes, cut)
 }
 
-fn text(sheets: &[Vec<u8>]) -> String {
-    let lines =
-        |(index, sheet): (usize, &Vec<u8>)| format!("sheet {}\n{}", index + 1, answer(sheet).0);
-    sheets.iter().enumerate().map(lines).collect()
+/// The whole text of the sheet with this index.
+fn text(index: usize, sheet: &[u8]) -> String {
+    format!("sheet {}\n{}", index + 1, answer(sheet).0)
+}
+
+fn texts(sheets: &[Vec<u8>]) -> String {
+    let text = |(index, sheet): (usize, &Vec<u8>)| text(index, sheet);
+    sheets.iter().enumerate().map(text).collect()
 }
 
 fn compare_text(sheets: &[Vec<u8>], port: &Port) -> Result<(), String> {
     let output = port.run(PROGRAM, &input(TEXT, sheets, &[]))?;
-    if output == text(sheets).as_bytes() {
-        return Ok(());
-    }
-    for sheet in sheets {
-        let one = std::slice::from_ref(sheet);
-        if port.run(PROGRAM, &input(TEXT, one, &[]))? != text(one).as_bytes() {
-            return Err(shown(sheet, port)?);
+    let mut rest = output.as_slice();
+    for (index, sheet) in sheets.iter().enumerate() {
+        match rest.strip_prefix(text(index, sheet).as_bytes()) {
+            Some(after) => rest = after,
+            None => return Err(shown(sheet, port)?),
         }
     }
-    Err(format!("{PROGRAM}: the texts differ and no sheet's does"))
+    match rest {
+        [] => Ok(()),
+        _ => Err(format!("{PROGRAM}: text after that of the last sheet")),
+    }
 }
 
 fn shown(sheet: &[u8], port: &Port) -> Result<String, String> {
@@ -447,7 +452,7 @@ fn shown(sheet: &[u8], port: &Port) -> Result<String, String> {
     let hex: String = sheet.iter().map(|byte| format!("{byte:02x}")).collect();
     Ok(format!(
         "{PROGRAM}: the answers to this sheet differ\n{hex}\nexpected:\n{}port:\n{}",
-        text(&one),
+        texts(&one),
         String::from_utf8_lossy(&output)
     ))
 }
@@ -476,7 +481,7 @@ pub fn write_sample() -> Result<(), String> {
             left -= 1;
         }
     }
-    let text = text(&sheets);
+    let text = texts(&sheets);
     let folder = port::root().join("crates").join(PROGRAM);
     fs::write(folder.join("stdin"), input(TEXT, &sheets, &[])).map_err(|e| e.to_string())?;
     fs::write(folder.join("stdout"), &text).map_err(|e| e.to_string())?;
@@ -515,7 +520,7 @@ mod tests {
             \x20 write 0 45 1 1\n\
             \x20 write 0 45 1 1\n\
             \x20 write 15 0 1 1\n";
-        assert_eq!(text(&[sheet[..44].to_vec(), sheet]), cut + whole);
+        assert_eq!(texts(&[sheet[..44].to_vec(), sheet]), cut + whole);
     }
 
     fn entry(at: At, label: &[u8], duration: u32) -> reader::Entry {
