@@ -13,7 +13,6 @@ use group::group::GroupBuilt;
 use group::sequence::Sequence;
 use group::sequence::Sequenced;
 use group::stagger::Built;
-use timeline::timeline::Moved;
 use timeline::timeline::Timeline;
 use tween::StaggerPattern;
 ghost use Prim.Native.Nat.{_<_, _≤_};
@@ -21,10 +20,12 @@ ghost use Prim.Native.Nat.{_<_, _≤_};
 // More items than a sequence has at most.
 pub const ITEMS: usize = 256;
 
-// A sequence, and where its next item is to be read.
+// A sequence, where its next item is to be read, and the refusal of each item and the cursor after it.
 struct Reached {
     cursor: Cursor,
     sequence: Sequence,
+    refusals: [u8; ITEMS],
+    cursors: [f32; ITEMS],
 }
 
 // Call 13: introspect of the group around the timeline.
@@ -34,17 +35,6 @@ pub fn introspecting(buffer: &mut [u8; BUFFER], run: Run) -> Run {
     let s = run.line(buffer, refusal::ACCEPTED, t);
     let s = lines::introspect(s, buffer, group.introspect());
     run.after(run.cursor, s, t)
-}
-
-// Call 14: reverse of that group.
-pub fn reverse(t: Timeline, kinds: &mut [u8], amounts: &mut [f32], places: &mut [f32]) -> Moved {
-    let group = AnimationGroup::from_timeline(t);
-    let m = group.reverse(kinds, amounts, places);
-    let moved = m.group;
-    Moved {
-        refusal: m.refusal,
-        timeline: moved.timeline(),
-    }
 }
 
 // Calls 16 to 19: stagger, and a group's parallel, sequence and stagger.
@@ -105,69 +95,64 @@ pub fn sequencing(script: &[u8], buffer: &mut [u8; BUFFER], run: Run) -> Run {
     let cursor = run.cursor;
     let read = cursor.byte(script);
     let n = least(read.value as usize, ITEMS);
-    let mut refusals = no_refusals();
-    let mut cursors = no_cursors();
-    let made = items(script, read, n, &mut refusals, &mut cursors);
+    let made = items(script, start(read), n);
     let next = made.cursor;
-    let sequence = made.sequence;
     if next.whole {
-        let t = sequence.build();
-        let s = show(buffer, run, refusal::ACCEPTED, t);
-        let s = lines::items(s, buffer, &refusals, &cursors, n);
-        return run.after(next, s, t);
+        return sequenced(buffer, run, made, n);
     }
     run.cut()
 }
 
-fn no_refusals() -> [u8; ITEMS] {
-    [0; ITEMS]
+fn sequenced(buffer: &mut [u8; BUFFER], run: Run, made: Reached, n: usize) -> Run {
+    let sequence = made.sequence;
+    let t = sequence.build();
+    let s = show(buffer, run, refusal::ACCEPTED, t);
+    let refusals = made.refusals;
+    let cursors = made.cursors;
+    let s = lines::items(s, buffer, refusals, cursors, n);
+    run.after(made.cursor, s, t)
 }
 
-fn no_cursors() -> [f32; ITEMS] {
-    [0.0; ITEMS]
+// An empty sequence, whose first item is behind the cursor.
+fn start(cursor: Cursor) -> Reached {
+    Reached {
+        cursor,
+        sequence: Sequence::new(),
+        refusals: [0; ITEMS],
+        cursors: [0.0; ITEMS],
+    }
 }
 
-// The items of a sequence, one after another, with the refusal of each and the cursor after it.
-fn items(
-    script: &[u8],
-    first: Cursor,
-    n: usize,
-    refusals: &mut [u8; ITEMS],
-    cursors: &mut [f32; ITEMS],
-) -> Reached
+// The items of a sequence, one after another.
+fn items(script: &[u8], first: Reached, n: usize) -> Reached
     requires { ⌜ n ≤ 256 ⌝ }
 {
-    let mut made = Reached {
-        cursor: first,
-        sequence: Sequence::new(),
-    };
+    let mut made = first;
     let mut i = 0;
     while i < n {
-        made = next_item(script, made, i, refusals, cursors);
+        made = next_item(script, made, i);
         i += 1;
     }
     made
 }
 
-fn next_item(
-    script: &[u8],
-    made: Reached,
-    at: usize,
-    refusals: &mut [u8; ITEMS],
-    cursors: &mut [f32; ITEMS],
-) -> Reached
+fn next_item(script: &[u8], made: Reached, at: usize) -> Reached
     requires { ⌜ at < 256 ⌝ }
 {
     let cursor = made.cursor;
     let item = cursor.item(script);
     let answer = add(script, made.sequence, item);
     let sequence = answer.sequence;
+    let mut refusals = made.refusals;
+    let mut cursors = made.cursors;
     refusals[at] = answer.refusal;
     cursors[at] = sequence.cursor();
     let next = item.next;
     Reached {
         cursor: next,
         sequence,
+        refusals,
+        cursors,
     }
 }
 

@@ -12,6 +12,7 @@ use crate::read::Update;
 use crate::read::least;
 use crate::text::BUFFER;
 use crate::text::Sink;
+use group::group::AnimationGroup;
 use steps::MAX_ENTRIES;
 use timeline::timeline::Added;
 use timeline::timeline::At;
@@ -176,23 +177,22 @@ fn move_by(
         3 => t.reset(kinds, amounts, places),
         5 => t.seek(Share(to), kinds, amounts, places),
         6 => t.seek_abs(Secs(to), kinds, amounts, places),
-        14 => builders::reverse(t, kinds, amounts, places),
-        _ => preview(t, to, kinds, amounts, places),
-    }
-}
-
-// The preview leaves the timeline as it was.
-fn preview(
-    t: Timeline,
-    dt: f32,
-    kinds: &mut [u8],
-    amounts: &mut [f32],
-    places: &mut [f32],
-) -> Moved {
-    let refusal = t.preview(dt, kinds, amounts, places);
-    Moved {
-        refusal,
-        timeline: t,
+        11 => {
+            let refusal = t.preview(to, kinds, amounts, places);
+            Moved {
+                refusal,
+                timeline: t,
+            }
+        }
+        _ => {
+            let group = AnimationGroup::from_timeline(t);
+            let m = group.reverse(kinds, amounts, places);
+            let moved = m.group;
+            Moved {
+                refusal: m.refusal,
+                timeline: moved.timeline(),
+            }
+        }
     }
 }
 

@@ -232,8 +232,8 @@ pub fn delay(sink: Sink, buffer: &mut [u8; BUFFER], secs: f32) -> Sink {
 pub fn items(
     sink: Sink,
     buffer: &mut [u8; BUFFER],
-    refusals: &[u8; ITEMS],
-    cursors: &[f32; ITEMS],
+    refusals: [u8; ITEMS],
+    cursors: [f32; ITEMS],
     len: usize,
 ) -> Sink {
     let n = least(len, ITEMS);

@@ -5,13 +5,10 @@ use Rattle.trace.proofs.builders.items.Statement.{statement}
 use Rattle.trace.proofs.builders.items.Tie as tie
 
 abbrev Inv-loop : tie.InvT-loop
-Inv-loop script n refusals₀ cursors₀ made₀ i₀ refusals cursors made i = i ≤ n
+Inv-loop script n made₀ i₀ made i = i ≤ n
 
 abbrev μ-loop : tie.MeasureT-loop
-μ-loop script n refusals₀ cursors₀ made₀ i₀ refusals cursors made i = n - i
-
-new-requires : tie.Need-new-requires Inv-loop μ-loop
-new-requires c κs = tt
+μ-loop script n made₀ i₀ made i = n - i
 
 loop-holds : tie.Need-loop-holds Inv-loop μ-loop
 loop-holds c = omega arith
@@ -34,13 +31,4 @@ returns c = tt
 pub items-spec : {M : Type 1} → statement M
 items-spec =
     tie.close
-    (tie.spec
-    Inv-loop
-    μ-loop
-    new-requires
-    loop-holds
-    next-item-requires
-    add-i
-    loop-less
-    loop-again
-    returns)
+    (tie.spec Inv-loop μ-loop loop-holds next-item-requires add-i loop-less loop-again returns)

@@ -5,10 +5,10 @@ use Rattle.trace.proofs.lines.items.Statement.{statement}
 use Rattle.trace.proofs.lines.items.Tie as tie
 
 abbrev Inv-loop : tie.InvT-loop
-Inv-loop buffer₀ refusals cursors len n s₀ i₀ buffer s i = (i ≤ n) × (n ≤ 256)
+Inv-loop buffer₀ len refusals cursors n s₀ i₀ buffer s i = (i ≤ n) × (n ≤ 256)
 
 abbrev μ-loop : tie.MeasureT-loop
-μ-loop buffer₀ refusals cursors len n s₀ i₀ buffer s i = n - i
+μ-loop buffer₀ len refusals cursors n s₀ i₀ buffer s i = n - i
 
 least-requires : tie.Need-least-requires Inv-loop μ-loop
 least-requires c κs = tt
@@ -22,8 +22,8 @@ bytes-requires c κs = tt
 loop-holds : tie.Need-loop-holds Inv-loop μ-loop
 loop-holds c = omega arith
 
-element-copy-out-wide : tie.Need-element-copy-out-wide Inv-loop μ-loop
-element-copy-out-wide c = omega arith
+array-read-wide : tie.Need-array-read-wide Inv-loop μ-loop
+array-read-wide c = omega arith
 
 wide-requires : tie.Need-wide-requires Inv-loop μ-loop
 wide-requires c κs = tt
@@ -34,8 +34,8 @@ number-requires c κs = tt
 mul-float : tie.Need-mul-float Inv-loop μ-loop
 mul-float c = omega arith
 
-element-copy-out-float : tie.Need-element-copy-out-float Inv-loop μ-loop
-element-copy-out-float c = omega arith
+array-read-float : tie.Need-array-read-float Inv-loop μ-loop
+array-read-float c = omega arith
 
 float-requires : tie.Need-float-requires Inv-loop μ-loop
 float-requires c κs = tt
@@ -65,11 +65,11 @@ items-spec =
     slice-aggregate-bytes
     bytes-requires
     loop-holds
-    element-copy-out-wide
+    array-read-wide
     wide-requires
     number-requires
     mul-float
-    element-copy-out-float
+    array-read-float
     float-requires
     add-i
     loop-less
