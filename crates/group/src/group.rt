@@ -11,7 +11,7 @@ use track::track::Share;
 use tween::StaggerPattern;
 ghost use mathlib.Core.Path.{_≡_};
 ghost use lib.ListN.{length};
-ghost use Rattle.track.specs.Clocks.{isCompleted};
+ghost use Rattle.clock.specs.Clocks.{isCompleted};
 ghost use Rattle.track.specs.Tracks.{progressOf, over, Sent};
 ghost use Rattle.track.specs.Calls.{SetTimeScale, Play, Pause, Resume, Reset, Seek, Update, roomOf};
 ghost use Rattle.timeline.specs.Calls.{On, step, movedBy, updatedBy};

@@ -9,6 +9,7 @@
 use crate::text;
 use crate::text::TEXT;
 use crate::text::least;
+use clock::TimelineState;
 use label::Label;
 use label::MAX_LABEL;
 use refusal::ACCEPTED;
@@ -18,7 +19,6 @@ use sheet_format::description::Placement;
 use steps::Entry;
 use steps::MAX_ENTRIES;
 use timeline::timeline::Timeline;
-use track::clock::TimelineState;
 use tween::Loop;
 
 // The longest sheet.
