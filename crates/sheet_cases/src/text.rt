@@ -1,7 +1,7 @@
 // A text in a buffer that has room for the longest one. Each function puts something at a place and answers the place after it.
 ghost use Prim.Native.Nat.{_≤_};
 
-// The lines of 64 entries are less than 10,000 bytes.
+// The lines of 64 entries with the longest labels are less than 10,200 bytes.
 pub const TEXT: usize = 16_384;
 
 const FNV_OFFSET: u32 = 0x811c_9dc5;
