@@ -29,7 +29,7 @@ const USAGE: &str = "usage:
   oracle trace | trace-text | trace-digests
   oracle traces [--seed N] [--scripts N] [--least-calls N] [--calls KINDS] [--port COMMAND]
   oracle trace-sample [--calls KINDS]
-  oracle bench [--rounds N]
+  oracle bench
 KINDS: all, no-builders, no-update, or call bytes with commas between them";
 
 fn main() -> ExitCode {
@@ -73,7 +73,7 @@ fn run(words: &[&str]) -> Result<(), String> {
             })
         }
         "trace-sample" => traces::write_sample(Options::read(words, &["--calls"])?.kinds()?),
-        "bench" => bench::run(Options::read(words, &["--rounds"])?.number("--rounds", 9)?),
+        "bench" => Options::read(words, &[]).and_then(|_| bench::run()),
         _ => Err(USAGE.into()),
     }
 }
