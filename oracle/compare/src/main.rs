@@ -34,7 +34,7 @@ const USAGE: &str = "usage:
   oracle trace-sample [--calls KINDS]
   oracle sheets [--seed N] [--sheets N] [--least N] [--port COMMAND]
   oracle sheet-sample
-  oracle bench [--rounds N]
+  oracle bench
 KINDS: all, no-builders, no-update, or call bytes with commas between them";
 
 fn main() -> ExitCode {
@@ -88,7 +88,7 @@ fn run(words: &[&str]) -> Result<(), String> {
             })
         }
         "sheet-sample" => Options::read(words, &[]).and_then(|_| sheets::write_sample()),
-        "bench" => bench::run(Options::read(words, &["--rounds"])?.number("--rounds", 9)?),
+        "bench" => Options::read(words, &[]).and_then(|_| bench::run()),
         _ => Err(USAGE.into()),
     }
 }

@@ -1,14 +1,17 @@
 -- `adds` ends, and is safe.
 use Prim.Native.Nat.{_≤_, _-_}
 use borrow.Author.Needs.{needs}
-use Rattle.bench.proofs.adds.Statement.{statement}
-use Rattle.bench.proofs.adds.Tie as tie
+use Rattle.bench.proofs.jobs.adds.Statement.{statement}
+use Rattle.bench.proofs.jobs.adds.Tie as tie
 
 abbrev Inv-loop : tie.InvT-loop
-Inv-loop entries mode times base₀ i₀ base i = i ≤ times
+Inv-loop entries turns times base₀ i₀ base i = i ≤ times
 
 abbrev μ-loop : tie.MeasureT-loop
-μ-loop entries mode times base₀ i₀ base i = times - i
+μ-loop entries turns times base₀ i₀ base i = times - i
+
+divided-requires : tie.Need-divided-requires Inv-loop μ-loop
+divided-requires c κs = search needs
 
 loop-holds : tie.Need-loop-holds Inv-loop μ-loop
 loop-holds c = search needs
@@ -37,6 +40,7 @@ adds-spec =
     (tie.spec
     Inv-loop
     μ-loop
+    divided-requires
     loop-holds
     built-requires
     duration-requires

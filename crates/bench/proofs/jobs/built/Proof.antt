@@ -1,17 +1,20 @@
 -- `built` ends, and is safe.
 use Prim.Native.Nat.{_≤_, _-_}
 use borrow.Author.Needs.{needs}
-use Rattle.bench.proofs.built.Statement.{statement}
-use Rattle.bench.proofs.built.Tie as tie
+use Rattle.bench.proofs.jobs.built.Statement.{statement}
+use Rattle.bench.proofs.jobs.built.Tie as tie
 
 abbrev Inv-loop : tie.InvT-loop
-Inv-loop entries t₀ i₀ t7 t i = i ≤ entries
+Inv-loop job entries t₀ i₀ t7 t i = i ≤ entries
 
 abbrev μ-loop : tie.MeasureT-loop
-μ-loop entries t₀ i₀ t7 t i = entries - i
+μ-loop job entries t₀ i₀ t7 t i = entries - i
 
 new-requires : tie.Need-new-requires Inv-loop μ-loop
 new-requires c κs = search needs
+
+mode-of-requires : tie.Need-mode-of-requires Inv-loop μ-loop
+mode-of-requires c κs = search needs
 
 looping-requires : tie.Need-looping-requires Inv-loop μ-loop
 looping-requires c κs = search needs
@@ -27,6 +30,12 @@ from-u32-requires c κs = search needs
 
 slice-aggregate-add : tie.Need-slice-aggregate-add Inv-loop μ-loop
 slice-aggregate-add c = search needs
+
+placed-requires : tie.Need-placed-requires Inv-loop μ-loop
+placed-requires c κs = search needs
+
+lasting-requires : tie.Need-lasting-requires Inv-loop μ-loop
+lasting-requires c κs = search needs
 
 add-requires : tie.Need-add-requires Inv-loop μ-loop
 add-requires c κs = search needs
@@ -50,11 +59,14 @@ built-spec =
     Inv-loop
     μ-loop
     new-requires
+    mode-of-requires
     looping-requires
     loop-holds
     cast-from-u32
     from-u32-requires
     slice-aggregate-add
+    placed-requires
+    lasting-requires
     add-requires
     add-i
     loop-less

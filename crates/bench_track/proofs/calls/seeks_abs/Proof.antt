@@ -1,20 +1,32 @@
 -- `seeks_abs` ends, and is safe.
+use mathlib.Core.Path.{_≡_}
 use Prim.Native.Nat.{_≤_, _-_}
+use lib.ListN.{length}
 use borrow.Author.Needs.{needs}
-use Rattle.bench.proofs.seeks_abs.Statement.{statement}
-use Rattle.bench.proofs.seeks_abs.Tie as tie
+use Rattle.bench_track.proofs.calls.seeks_abs.Statement.{statement}
+use Rattle.bench_track.proofs.calls.seeks_abs.Tie as tie
 
 abbrev Inv-loop : tie.InvT-loop
-Inv-loop base turns t₀ kinds₀ amounts₀ places₀ turn₀ t kinds amounts places turn = turn ≤ turns
+Inv-loop first base turns t₀ kinds₀ amounts₀ places₀ turn₀ t kinds amounts places turn =
+    (turn ≤ turns) × (length kinds ≡ 64) × (length amounts ≡ 64) × (length places ≡ 64)
 
 abbrev μ-loop : tie.MeasureT-loop
-μ-loop base turns t₀ kinds₀ amounts₀ places₀ turn₀ t kinds amounts places turn = turns - turn
+μ-loop first base turns t₀ kinds₀ amounts₀ places₀ turn₀ t kinds amounts places turn = turns - turn
 
 loop-holds : tie.Need-loop-holds Inv-loop μ-loop
 loop-holds c = search needs
 
 from-u32-requires : tie.Need-from-u32-requires Inv-loop μ-loop
 from-u32-requires c κs = search needs
+
+slice-aggregate-seek-abs : tie.Need-slice-aggregate-seek-abs Inv-loop μ-loop
+slice-aggregate-seek-abs c = search needs
+
+slice-aggregate-seek-abs-2 : tie.Need-slice-aggregate-seek-abs-2 Inv-loop μ-loop
+slice-aggregate-seek-abs-2 c = search needs
+
+slice-aggregate-seek-abs-3 : tie.Need-slice-aggregate-seek-abs-3 Inv-loop μ-loop
+slice-aggregate-seek-abs-3 c = search needs
 
 seek-abs-requires : tie.Need-seek-abs-requires Inv-loop μ-loop
 seek-abs-requires c κs = search needs
@@ -28,9 +40,6 @@ loop-less c = search needs
 loop-again : tie.Need-loop-again Inv-loop μ-loop
 loop-again c = search needs
 
-elapsed-requires : tie.Need-elapsed-requires Inv-loop μ-loop
-elapsed-requires c κs = search needs
-
 returns : tie.Need-returns Inv-loop μ-loop
 returns c = search needs
 
@@ -42,9 +51,11 @@ seeks-abs-spec =
     μ-loop
     loop-holds
     from-u32-requires
+    slice-aggregate-seek-abs
+    slice-aggregate-seek-abs-2
+    slice-aggregate-seek-abs-3
     seek-abs-requires
     add-turn
     loop-less
     loop-again
-    elapsed-requires
     returns)

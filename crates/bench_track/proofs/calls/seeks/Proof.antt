@@ -1,0 +1,65 @@
+-- `seeks` ends, and is safe.
+use mathlib.Core.Path.{_≡_}
+use Prim.Native.Nat.{_≤_, _-_}
+use lib.ListN.{length}
+use borrow.Author.Needs.{needs}
+use Rattle.bench_track.proofs.calls.seeks.Statement.{statement}
+use Rattle.bench_track.proofs.calls.seeks.Tie as tie
+
+abbrev Inv-loop : tie.InvT-loop
+Inv-loop turns t₀ kinds₀ amounts₀ places₀ turn₀ t kinds amounts places turn =
+    (turn ≤ turns) × (length kinds ≡ 64) × (length amounts ≡ 64) × (length places ≡ 64)
+
+abbrev μ-loop : tie.MeasureT-loop
+μ-loop turns t₀ kinds₀ amounts₀ places₀ turn₀ t kinds amounts places turn = turns - turn
+
+loop-holds : tie.Need-loop-holds Inv-loop μ-loop
+loop-holds c = search needs
+
+from-u32-requires : tie.Need-from-u32-requires Inv-loop μ-loop
+from-u32-requires c κs = search needs
+
+slice-aggregate-seek : tie.Need-slice-aggregate-seek Inv-loop μ-loop
+slice-aggregate-seek c = search needs
+
+slice-aggregate-seek-2 : tie.Need-slice-aggregate-seek-2 Inv-loop μ-loop
+slice-aggregate-seek-2 c = search needs
+
+slice-aggregate-seek-3 : tie.Need-slice-aggregate-seek-3 Inv-loop μ-loop
+slice-aggregate-seek-3 c = search needs
+
+seek-requires : tie.Need-seek-requires Inv-loop μ-loop
+seek-requires c κs = search needs
+
+add-turn : tie.Need-add-turn Inv-loop μ-loop
+add-turn c = search needs
+
+loop-less : tie.Need-loop-less Inv-loop μ-loop
+loop-less c = search needs
+
+loop-again : tie.Need-loop-again Inv-loop μ-loop
+loop-again c = search needs
+
+elapsed-requires : tie.Need-elapsed-requires Inv-loop μ-loop
+elapsed-requires c κs = search needs
+
+returns : tie.Need-returns Inv-loop μ-loop
+returns c = search needs
+
+pub seeks-spec : {M : Type 1} → statement M
+seeks-spec =
+    tie.close
+    (tie.spec
+    Inv-loop
+    μ-loop
+    loop-holds
+    from-u32-requires
+    slice-aggregate-seek
+    slice-aggregate-seek-2
+    slice-aggregate-seek-3
+    seek-requires
+    add-turn
+    loop-less
+    loop-again
+    elapsed-requires
+    returns)
