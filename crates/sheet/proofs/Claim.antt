@@ -6,6 +6,7 @@ use mathlib.Core.List.{List, []}
 use borrow.Author.Tests.{leb-true}
 use lib.Dec.{eqb, leb}
 use lib.ListN.{length}
+use Rattle.timeline.specs.declared.timeline.Timeline.{Timeline}
 use Rattle.timeline.specs.Placements.{empty}
 use Rattle.timeline.specs.Calls.{Call, after}
 use Rattle.history.proofs.Covered as history
@@ -16,7 +17,7 @@ use Rattle.sheet_format.specs.Write.{sheetOf, describeNumber, writeNumber}
 use Rattle.sheet_format.proofs.Accepted.{passed, in-turn, accepted-sheet}
 use Rattle.sheet_format.proofs.Sheets.{write-whole}
 use Rattle.sheet.specs.declared.Reading.{Reading}
-use Rattle.sheet.specs.Build.{readCalls, readingOf}
+use Rattle.sheet.specs.Build.{callsOf, built, readCalls, readingOf}
 use Rattle.sheet.specs.Claim.{ReadsBack, Rewrites, Covered, Claim}
 use Rattle.sheet.proofs.Rewrite.{sheet-same, described-good}
 use Rattle.sheet.proofs.Taken.{taken}
@@ -53,16 +54,19 @@ unfolding after
 chosen true x y calls e f = e
 chosen false x y calls e f = f
 
-covers : (s : List ℕ) → Covered s
+read-made : (s : List ℕ) → readingOf s .timeline ≡ after empty (readCalls s)
 unfolding readingOf readCalls
-covers s =
-    let made : readingOf s .timeline ≡ after empty (readCalls s) = chosen (eqb (checkNumber s) 0) _ _ _ refl refl in
-    record {
-      made = made;
-      taken = taken s;
-      seeks = history.covered (readingOf s .timeline) (readCalls s) made;
-      sound = history.covered-sound (readingOf s .timeline) (readCalls s) made;
-    }
+read-made s = chosen (eqb (checkNumber s) 0) _ _ _ refl refl
+
+covered : (calls : List Call) (t : Timeline) → t ≡ after empty calls → Covered calls t
+covered calls t e = record { made = e; seeks = history.covered t calls e; sound = history.covered-sound t calls e }
 
 pub claim : Claim
-claim = record { reads-back = reads-back; rewrites = rewrites; covers = covers }
+claim =
+    record {
+      reads-back = reads-back;
+      rewrites = rewrites;
+      reads = λ s. covered (readCalls s) (readingOf s .timeline) (read-made s);
+      builds = λ d. covered (callsOf d) (built d) refl;
+      takes = taken;
+    }

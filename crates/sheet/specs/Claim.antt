@@ -16,7 +16,7 @@ use Rattle.sheet_format.specs.declared.description.Description.{Description}
 use Rattle.sheet_format.specs.Check.{checkNumber}
 use Rattle.sheet_format.specs.Descriptions.{blankItem, descriptionIn, describedBy, cleaned}
 use Rattle.sheet_format.specs.Write.{numberOf, secondsOf, writeNumber, writtenBytes}
-use Rattle.sheet.specs.Build.{readCalls, readingOf}
+use Rattle.sheet.specs.Build.{callsOf, built, readCalls, readingOf}
 
 -- the numbers of an entry fit their types
 pub record TypedItem (x : Item) : Type 0 where
@@ -46,15 +46,18 @@ abbrev pub AllAccepted : Timeline → List Call → Type 0
 AllAccepted t [] = Unit
 AllAccepted t (call ∷ calls) = (step t call .refusal ≡ accepted) × AllAccepted (step t call .timeline) calls
 
--- "Readers and builders hand out what such lists give": so the claim of crate history and its invariant hold of what is read, from any bytes
-pub record Covered (s : List ℕ) : Type 0 where
-  pub made : readingOf s .timeline ≡ after empty (readCalls s)
-  pub taken : AllAccepted empty (readCalls s)
-  pub seeks : Seeks (readCalls s) (readingOf s .timeline)
-  pub sound : Invariant (readingOf s .timeline)
+-- "Readers and builders hand out what such lists give": so the claim of crate history and its invariant hold of the timeline t
+pub record Covered (calls : List Call) (t : Timeline) : Type 0 where
+  pub made : t ≡ after empty calls
+  pub seeks : Seeks calls t
+  pub sound : Invariant t
 
 -- all of it, which `claimed` carries
 pub record Claim : Type 0 where
   pub reads-back : ReadsBack
   pub rewrites : Rewrites
-  pub covers : (s : List ℕ) → Covered s
+  -- what is read from any bytes, and what any description builds
+  pub reads : (s : List ℕ) → Covered (readCalls s) (readingOf s .timeline)
+  pub builds : (d : Description) → Covered (callsOf d) (built d)
+  -- every entry of an accepted sheet is in its timeline
+  pub takes : (s : List ℕ) → AllAccepted empty (readCalls s)
