@@ -1,41 +1,25 @@
 -- `sheet`, the fields and the LF.
 use native.Mathlib.Omega.{arith}
-use Rattle.float32.specs.Helpers.{toBits}
-use Rattle.digits.proofs.Length.{length-digits}
 use Rattle.call_log.specs.Lines.{shown}
 use Rattle.call_log.proofs.Writing.{wrote-then, byte-digits, word-digits, bits-length}
 use borrow.Author.Needs.{needs}
 use Rattle.call_log.proofs.lines.accepted.Statement.{statement}
 use Rattle.call_log.proofs.lines.accepted.Tie as tie
-use Rattle.call_log.proofs.lines.accepted.Reads as reads
-use Rattle.call_log.proofs.lines.accepted.Lts as lts
-use Rattle.call_log.proofs.fields.put_bits.Reads as put-bits-reads
-use Rattle.call_log.proofs.fields.put_byte.Reads as put-byte-reads
-use Rattle.call_log.proofs.fields.put_number.Reads as put-number-reads
-use Rattle.call_log.proofs.fields.put_sheet.Reads as put-sheet-reads
-use Rattle.timeline.proofs.timeline.Timeline.duration.Reads as duration-reads
-use Rattle.timeline.proofs.timeline.Timeline.entry_count.Reads as entry-count-reads
-use Rattle.timeline.proofs.timeline.Timeline.playback_duration.Reads as playback-duration-reads
 
--- src/lines.rt:34:9
 put-sheet-requires : tie.Need-put-sheet-requires
 put-sheet-requires c κs = search needs
 
--- src/lines.rt:35:35
 cast-put-number : tie.Need-cast-put-number
 cast-put-number c = search needs
 
--- src/lines.rt:35:9
 put-number-requires : tie.Need-put-number-requires
 put-number-requires c κs =
     let none = byte-digits 0 (search needs) in
     omega (arith, c .before .before .before .put-sheet .ensures .ends)
 
--- src/lines.rt:36:35
 entry-count-requires : tie.Need-entry-count-requires
 entry-count-requires c κs = search needs
 
--- src/lines.rt:36:9
 put-number-requires-2 : tie.Need-put-number-requires-2
 put-number-requires-2 c κs =
     let none = byte-digits 0 (search needs) in
@@ -43,11 +27,9 @@ put-number-requires-2 c κs =
     let a = c .before .before .before .before .before .before .before .before .put-sheet .ensures .ends in
     omega (arith, c .before .before .before .before .put-number .ensures .ends)
 
--- src/lines.rt:37:33
 duration-requires : tie.Need-duration-requires
 duration-requires c κs = search needs
 
--- src/lines.rt:37:9
 put-bits-requires : tie.Need-put-bits-requires
 put-bits-requires c κs =
     let none = byte-digits 0 (search needs) in
@@ -56,11 +38,9 @@ put-bits-requires c κs =
     let b = c .before .before .before .before .before .before .before .before .before .put-number .ensures .ends in
     omega (arith, c .before .before .before .before .put-number2 .ensures .ends)
 
--- src/lines.rt:38:33
 playback-duration-requires : tie.Need-playback-duration-requires
 playback-duration-requires c κs = search needs
 
--- src/lines.rt:38:9
 put-bits-requires-2 : tie.Need-put-bits-requires-2
 put-bits-requires-2 c κs =
     let none = byte-digits 0 (search needs) in
@@ -70,7 +50,6 @@ put-bits-requires-2 c κs =
     let d = c .before .before .before .before .before .before .before .before .before .put-number2 .ensures .ends in
     omega (arith, c .before .before .before .before .put-bits .ensures .ends, bits-length (c .before .before .before .before .before .duration .result))
 
--- src/lines.rt:39:5
 put-byte-requires : tie.Need-put-byte-requires
 put-byte-requires c κs =
     let none = byte-digits 0 (search needs) in
@@ -81,11 +60,9 @@ put-byte-requires c κs =
     let e = c .before .before .before .before .before .before .before .before .put-bits .ensures .ends in
     omega (arith, c .before .before .before .put-bits2 .ensures .ends, bits-length (c .before .before .before .before .before .before .before .before .before .duration .result), bits-length (c .before .before .before .before .playback-duration .result))
 
--- src/lines.rt:30:1
 same-length : tie.Need-same-length
 same-length c = search needs
 
--- src/lines.rt:30:1
 returns : tie.Need-returns
 unfolding shown
 returns c =

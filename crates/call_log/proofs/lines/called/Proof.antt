@@ -1,48 +1,30 @@
 -- The number, the fields, the list and the LF.
-use mathlib.Core.Path.{_≡_, sym, _∙_}
 use native.Mathlib.Omega.{arith}
 use Rattle.call_log.proofs.Writing.{wrote-then, wrote-as, shown-called, byte-digits, word-digits, bits-length}
 use borrow.Author.Needs.{needs}
 use Rattle.call_log.proofs.lines.called.Statement.{statement}
 use Rattle.call_log.proofs.lines.called.Tie as tie
-use Rattle.call_log.proofs.lines.called.Reads as reads
-use Rattle.call_log.proofs.lines.called.Lts as lts
-use Rattle.call_log.proofs.fields.put_bits.Reads as put-bits-reads
-use Rattle.call_log.proofs.fields.put_byte.Reads as put-byte-reads
-use Rattle.call_log.proofs.fields.put_decimal.Reads as put-decimal-reads
-use Rattle.call_log.proofs.fields.put_letter.Reads as put-letter-reads
-use Rattle.call_log.proofs.fields.put_number.Reads as put-number-reads
-use Rattle.call_log.proofs.lines.put_list.Reads as put-list-reads
-use Rattle.call_log.proofs.lines.state_letter.Reads as state-letter-reads
-use Rattle.timeline.proofs.timeline.Timeline.elapsed.Reads as elapsed-reads
-use Rattle.timeline.proofs.timeline.Timeline.state.Reads as state-reads
 
--- src/lines.rt:85:9
 put-decimal-requires : tie.Need-put-decimal-requires
 put-decimal-requires c κs =
     let number = word-digits (c .before .before .before .args .number) (c .before .before .before .fits .number .fits) in
     omega arith
 
--- src/lines.rt:86:48
 state-requires : tie.Need-state-requires
 state-requires c κs = search needs
 
--- src/lines.rt:86:35
 state-letter-requires : tie.Need-state-letter-requires
 state-letter-requires c κs = search needs
 
--- src/lines.rt:86:9
 put-letter-requires : tie.Need-put-letter-requires
 put-letter-requires c κs =
     let number = word-digits (c .before .before .before .before .before .before .before .before .before .args .number) (c .before .before .before .before .before .before .before .before .before .fits .number .fits) in
     let w0 = c .before .before .before .before .before .put-decimal .ensures .ends in
     omega arith
 
--- src/lines.rt:87:33
 elapsed-requires : tie.Need-elapsed-requires
 elapsed-requires c κs = search needs
 
--- src/lines.rt:87:9
 put-bits-requires : tie.Need-put-bits-requires
 put-bits-requires c κs =
     let number = word-digits (c .before .before .before .before .before .before .before .before .before .before .before .before .before .before .args .number) (c .before .before .before .before .before .before .before .before .before .before .before .before .before .before .fits .number .fits) in
@@ -50,7 +32,6 @@ put-bits-requires c κs =
     let w1 = c .before .before .before .before .put-letter .ensures .ends in
     omega arith
 
--- src/lines.rt:88:9
 put-number-requires : tie.Need-put-number-requires
 put-number-requires c κs =
     let number = word-digits (c .before .before .before .before .before .before .before .before .before .before .before .before .before .before .before .before .before .before .args .number) (c .before .before .before .before .before .before .before .before .before .before .before .before .before .before .before .before .before .before .fits .number .fits) in
@@ -60,7 +41,6 @@ put-number-requires c κs =
     let few = byte-digits (c .before .before .before .before .before .before .before .before .before .before .before .before .before .before .before .before .before .before .args .refusal) (c .before .before .before .before .before .before .before .before .before .before .before .before .before .before .before .before .before .before .fits .refusal .fits) in
     omega (arith, bits-length (c .before .before .before .before .elapsed .result))
 
--- src/lines.rt:89:9
 put-list-requires : tie.Need-put-list-requires
 put-list-requires c κs =
     let number = word-digits (c .before .before .before .before .before .before .before .before .before .before .before .before .before .before .before .before .before .before .before .before .before .before .args .number) (c .before .before .before .before .before .before .before .before .before .before .before .before .before .before .before .before .before .before .before .before .before .before .fits .number .fits) in
@@ -71,7 +51,6 @@ put-list-requires c κs =
     let few = byte-digits (c .before .before .before .before .before .before .before .before .before .before .before .before .before .before .before .before .before .before .before .before .before .before .args .refusal) (c .before .before .before .before .before .before .before .before .before .before .before .before .before .before .before .before .before .before .before .before .before .before .fits .refusal .fits) in
     (c .before .before .before .before .before .before .before .before .before .before .before .before .before .before .before .before .before .before .before .before .before .before .pre .1, omega (arith, bits-length (c .before .before .before .before .before .before .before .before .elapsed .result)))
 
--- src/lines.rt:90:5
 put-byte-requires : tie.Need-put-byte-requires
 put-byte-requires c κs =
     let number = word-digits (c .before .before .before .before .before .before .before .before .before .before .before .before .before .before .before .before .before .before .before .before .before .before .before .before .before .before .args .number) (c .before .before .before .before .before .before .before .before .before .before .before .before .before .before .before .before .before .before .before .before .before .before .before .before .before .before .fits .number .fits) in
@@ -82,11 +61,9 @@ put-byte-requires c κs =
     let few = byte-digits (c .before .before .before .before .before .before .before .before .before .before .before .before .before .before .before .before .before .before .before .before .before .before .before .before .before .before .args .refusal) (c .before .before .before .before .before .before .before .before .before .before .before .before .before .before .before .before .before .before .before .before .before .before .before .before .before .before .fits .refusal .fits) in
     omega (arith, bits-length (c .before .before .before .before .before .before .before .before .before .before .before .before .elapsed .result), c .before .before .before .put-list .ensures .1)
 
--- src/lines.rt:74:1
 same-length : tie.Need-same-length
 same-length c = search needs
 
--- src/lines.rt:74:1
 returns : tie.Need-returns
 returns c =
     let number = word-digits (c .before .before .before .before .before .before .before .before .before .before .before .before .before .before .before .before .before .before .before .before .before .before .before .before .before .before .before .before .before .args .number) (c .before .before .before .before .before .before .before .before .before .before .before .before .before .before .before .before .before .before .before .before .before .before .before .before .before .before .before .before .before .fits .number .fits) in

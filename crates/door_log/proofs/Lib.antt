@@ -1,0 +1,2 @@
+-- A law of parts.
+pub mod Parts

@@ -1,0 +1,46 @@
+-- `door_log::main` is safe: what was read is lent.
+use Rattle.door_log.proofs.Parts.{front}
+use borrow.Author.Needs.{needs}
+use Rattle.door_log.proofs.main.Statement.{statement}
+use Rattle.door_log.proofs.main.Tie as tie
+
+slice-aggregate-read-front : tie.Need-slice-aggregate-read-front
+slice-aggregate-read-front c = search needs
+
+read-front-requires : tie.Need-read-front-requires
+read-front-requires c κs = search needs
+
+array-share-prefix-front : tie.Need-array-share-prefix-front
+array-share-prefix-front c = search needs
+
+slice-aggregate-open : tie.Need-slice-aggregate-open
+slice-aggregate-open c = front _ _ (c .before .before .read-front .ensures)
+
+open-requires : tie.Need-open-requires
+open-requires c κs = search needs
+
+write-line-requires : tie.Need-write-line-requires
+write-line-requires c κs = search needs
+
+script-requires : tie.Need-script-requires
+script-requires c κs = search needs
+
+returns : tie.Need-returns
+returns c = search needs
+
+returns-2 : tie.Need-returns-2
+returns-2 c = search needs
+
+pub main-spec : {M : Type 1} → statement M
+main-spec =
+    tie.close
+    (tie.spec
+    slice-aggregate-read-front
+    read-front-requires
+    array-share-prefix-front
+    slice-aggregate-open
+    open-requires
+    write-line-requires
+    script-requires
+    returns
+    returns-2)

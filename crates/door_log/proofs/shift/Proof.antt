@@ -1,0 +1,56 @@
+-- `door_log::shift` is safe and ends. The measure is the bytes that are left.
+use Prim.Native.Nat.{_+_, _-_, _≤_}
+use mathlib.Core.Path.{_≡_, refl}
+use native.Mathlib.Omega.{arith}
+use lib.ListN.{length, length-set}
+use Rattle.door_log.proofs.shift.Statement.{statement}
+use Rattle.door_log.proofs.shift.Tie as tie
+
+abbrev Inv-loop : tie.InvT-loop
+Inv-loop chunk₀ from count i₀ chunk i = (i ≤ count) × (length chunk ≡ length chunk₀) × (from + count ≤ length chunk₀)
+
+abbrev μ-loop : tie.MeasureT-loop
+μ-loop chunk₀ from count i₀ chunk i = count - i
+
+loop-holds : tie.Need-loop-holds Inv-loop μ-loop
+loop-holds c = (omega arith, refl, omega arith)
+
+add-place : tie.Need-add-place Inv-loop μ-loop
+add-place c = omega arith
+
+slice-read-chunk : tie.Need-slice-read-chunk Inv-loop μ-loop
+slice-read-chunk c = omega arith
+
+slice-write-chunk : tie.Need-slice-write-chunk Inv-loop μ-loop
+slice-write-chunk c = omega arith
+
+add-i : tie.Need-add-i Inv-loop μ-loop
+add-i c = omega arith
+
+loop-less : tie.Need-loop-less Inv-loop μ-loop
+loop-less c = omega arith
+
+loop-again : tie.Need-loop-again Inv-loop μ-loop
+loop-again c = (omega arith, simp length-set (c .before .before .loop .inv .1), omega arith)
+
+same-length : tie.Need-same-length Inv-loop μ-loop
+same-length c = c .before .loop .inv .1
+
+returns : tie.Need-returns Inv-loop μ-loop
+returns c = tt
+
+pub shift-spec : {M : Type 1} → statement M
+shift-spec =
+    tie.close
+    (tie.spec
+    Inv-loop
+    μ-loop
+    loop-holds
+    add-place
+    slice-read-chunk
+    slice-write-chunk
+    add-i
+    loop-less
+    loop-again
+    same-length
+    returns)
