@@ -11,8 +11,8 @@ use Rattle.tween.specs.Cases as tween
 use Rattle.steps.specs.declared.Entry.{Entry}
 use Rattle.steps.specs.declared.Row.{Row}
 use Rattle.steps.specs.Times.{twoF, localTime}
-use Rattle.track.specs.declared.clock.TimelineState.{TimelineState}
-use Rattle.track.specs.declared.clock.TimelineState.the-variants.{Idle, Playing, Paused, Completed}
+use Rattle.clock.specs.declared.TimelineState.{TimelineState}
+use Rattle.clock.specs.declared.TimelineState.the-variants.{Idle, Playing, Paused, Completed}
 use Rattle.track.specs.Tracks.{live, trackBase, trackRun, progressOf}
 use Rattle.track.specs.Calls.{Room, TrackCall, Looping, SetTimeScale, Play, SeekAbs, Update}
 use Rattle.timeline.specs.declared.timeline.At.{At}

@@ -14,12 +14,14 @@ use Rattle.timeline.specs.declared.timeline.At.{At}
 use Rattle.timeline.specs.declared.timeline.At.the-variants.{Absolute, Start}
 use Rattle.timeline.specs.declared.timeline.Timeline.{Timeline}
 use Rattle.timeline.specs.declared.timeline.Moved.{Moved}
+use Rattle.timeline.specs.declared.timeline.Updated.{Updated}
 use Rattle.timeline.specs.Calls.{Call, On}
 use Rattle.timeline.specs.Introspections.{playbackState, introspection}
 use Rattle.group.specs.declared.stagger.Built.{Built}
 use Rattle.group.specs.declared.group.AnimationGroup.{AnimationGroup}
 use Rattle.group.specs.declared.group.GroupBuilt.{GroupBuilt}
 use Rattle.group.specs.declared.group.GroupMoved.{GroupMoved}
+use Rattle.group.specs.declared.group.GroupUpdated.{GroupUpdated}
 use Rattle.group.specs.Items.{itemCalls, tooMany, firstRefusal, builtBy}
 use Rattle.group.specs.Sequence.{advance}
 
@@ -63,6 +65,11 @@ staggerOf ds p = builtBy (firstRefusal (delayOf p 0 .refusal) (tooMany (length d
 -- the answer of a call that moved the timeline
 abbrev pub groupMoved : Moved → GroupMoved
 groupMoved m = record { refusal = m .refusal; group = groupOf (m .timeline) }
+
+-- the answer of an update of the timeline
+abbrev pub groupUpdated : Updated → GroupUpdated
+groupUpdated u =
+    record { refusal = u .refusal; running = u .running; completed = u .completed; listed = u .listed; group = groupOf (u .timeline) }
 
 -- `reverse`: `self.inner.seek(1.0 - progress)`
 abbrev pub reverseCall : Timeline → Room → Call

@@ -6,15 +6,17 @@ use timeline::introspection::AnimationKind;
 use timeline::timeline::At;
 use timeline::timeline::Moved;
 use timeline::timeline::Timeline;
+use timeline::timeline::Updated;
 use track::track::Share;
 use tween::StaggerPattern;
 ghost use mathlib.Core.Path.{_≡_};
-ghost use Rattle.track.specs.Clocks.{isCompleted};
-ghost use Rattle.track.specs.Tracks.{progressOf, Sent};
-ghost use Rattle.track.specs.Calls.{SetTimeScale, Play, Pause, Resume, Reset, Seek, roomOf};
-ghost use Rattle.timeline.specs.Calls.{On, step, movedBy};
+ghost use lib.ListN.{length};
+ghost use Rattle.clock.specs.Clocks.{isCompleted};
+ghost use Rattle.track.specs.Tracks.{progressOf, over, Sent};
+ghost use Rattle.track.specs.Calls.{SetTimeScale, Play, Pause, Resume, Reset, Seek, Update, roomOf};
+ghost use Rattle.timeline.specs.Calls.{On, step, movedBy, updatedBy};
 ghost use Rattle.group.specs.Items.{firstRefusal, refusedWith, builtFrom};
-ghost use Rattle.group.specs.Group.{groupOf, groupBuilt, groupMoved, parallelOf, sequenceOf, staggerOf, reverseCall, groupDuration, groupIntrospected};
+ghost use Rattle.group.specs.Group.{groupOf, groupBuilt, groupMoved, groupUpdated, parallelOf, sequenceOf, staggerOf, reverseCall, groupDuration, groupIntrospected};
 
 // A group of animations that is controlled as one.
 pub struct AnimationGroup {
@@ -30,6 +32,15 @@ pub struct GroupBuilt {
 // The answer of play, reset, seek and reverse.
 pub struct GroupMoved {
     pub refusal: u8,
+    pub group: AnimationGroup,
+}
+
+// The answer of update: whether it still runs, whether the whole-run completion fired now, and how many entries it listed.
+pub struct GroupUpdated {
+    pub refusal: u8,
+    pub running: bool,
+    pub completed: bool,
+    pub listed: usize,
     pub group: AnimationGroup,
 }
 
@@ -199,6 +210,25 @@ impl AnimationGroup {
         inner.is_complete()
     }
 
+    // Advances by dt seconds, with each leaf's reply. The list takes the numbers of the entries that completed.
+    pub fn update(
+        self,
+        dt: f32,
+        replies: &[u8],
+        list: &mut [u8],
+        kinds: &mut [u8],
+        amounts: &mut [f32],
+        places: &mut [f32],
+    ) -> GroupUpdated
+        ensures { λ r. ⌜ r ≡ groupUpdated (updatedBy (step (self .inner) (On (Update dt (now (replies .entry)) (length (now (list .entry))) (roomOf (now (kinds .entry)) (now (amounts .entry)) (now (places .entry))))))) ⌝ }
+        ensures { λ _. ⌜ Sent (step (self .inner) (On (Update dt (now (replies .entry)) (length (now (list .entry))) (roomOf (now (kinds .entry)) (now (amounts .entry)) (now (places .entry))))) .rows) (now (kinds .entry)) (now (kinds .exit)) (now (amounts .entry)) (now (amounts .exit)) (now (places .entry)) (now (places .exit)) ⌝ }
+        ensures { λ _. ⌜ now (list .exit) ≡ over (step (self .inner) (On (Update dt (now (replies .entry)) (length (now (list .entry))) (roomOf (now (kinds .entry)) (now (amounts .entry)) (now (places .entry))))) .listed) (now (list .entry)) ⌝ }
+    {
+        let inner = self.inner;
+        let u = inner.update(dt, replies, list, kinds, amounts, places);
+        group_updated(u)
+    }
+
     // What is reported of it: its duration is the base.
     pub fn introspect(self) -> AnimationIntrospection
         ensures { λ r. ⌜ r ≡ groupIntrospected self ⌝ }
@@ -239,6 +269,21 @@ fn group_moved(m: Moved) -> GroupMoved
     let group = AnimationGroup { inner };
     GroupMoved {
         refusal: m.refusal,
+        group,
+    }
+}
+
+// The answer of an update of the timeline.
+fn group_updated(u: Updated) -> GroupUpdated
+    ensures { λ r. ⌜ r ≡ groupUpdated u ⌝ }
+{
+    let inner = u.timeline;
+    let group = AnimationGroup { inner };
+    GroupUpdated {
+        refusal: u.refusal,
+        running: u.running,
+        completed: u.completed,
+        listed: u.listed,
         group,
     }
 }

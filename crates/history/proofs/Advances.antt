@@ -12,7 +12,8 @@ use Rattle.steps.specs.declared.Entry.{Entry}
 use Rattle.steps.specs.Times.{runOf}
 use Rattle.track.specs.declared.track.Track.{Track}
 use Rattle.track.specs.Tracks.{live, trackBase}
-use Rattle.track.specs.Updates.{ticks, Advance, tickedTo, syncedTo, advanced, resting, playing, nextElapsed}
+use Rattle.track.specs.Updates.{ticks, Advance, tickedTo, syncedTo, advanced, resting, playing}
+use Rattle.clock.specs.Clocks.{nextElapsed}
 use Rattle.history.specs.Invariant.{NotBelow}
 use Rattle.history.proofs.Runs.{base-nonneg, run-nonneg, next-not-below, min-not-below}
 use Rattle.history.proofs.Clocks.{SoundClock}

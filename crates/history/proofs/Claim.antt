@@ -9,10 +9,10 @@ use Rattle.float32.specs.Helpers.{finiteF, nonnegF}
 use Rattle.float32.proofs.Order.{not-lt-of-le}
 use Rattle.float32.proofs.Nonneg.{nonneg-no-nan, zero-le-nonneg}
 use Rattle.steps.specs.Rows.{synced}
-use Rattle.track.specs.declared.clock.TimelineState.{TimelineState}
-use Rattle.track.specs.declared.clock.TimelineState.the-variants.{Idle, Playing, Paused, Completed}
+use Rattle.clock.specs.declared.TimelineState.{TimelineState}
+use Rattle.clock.specs.declared.TimelineState.the-variants.{Idle, Playing, Paused, Completed}
 use Rattle.track.specs.declared.track.Track.{Track}
-use Rattle.track.specs.Clocks.{seekTo as comesTo, unended, seekState, sought}
+use Rattle.clock.specs.Clocks.{seekTo as comesTo, unended, seekState, sought}
 use Rattle.track.specs.Tracks.{live, trackRun, rowsOf}
 use Rattle.track.specs.Calls.{Room, short, trackStep}
 use Rattle.timeline.specs.declared.timeline.Timeline.{Timeline}

@@ -4,10 +4,9 @@ use mathlib.Core.Bool.{Bool, true, false, cond}
 use lib.Ieee.{Float}
 use Rattle.float32.specs.Helpers.{nonnegF}
 use Rattle.float32.proofs.Nonneg.{zero-nonneg, max-zero-nonneg}
-use Rattle.track.specs.declared.clock.Clock.{Clock}
-use Rattle.track.specs.declared.clock.TimelineState.{TimelineState}
-use Rattle.track.specs.Clocks.{isCompleted, withState, scaled, cleared, started, playState, played, sought}
-use Rattle.track.specs.Updates.{advancedClock}
+use Rattle.clock.specs.declared.Clock.{Clock}
+use Rattle.clock.specs.declared.TimelineState.{TimelineState}
+use Rattle.clock.specs.Clocks.{isCompleted, withState, scaled, cleared, started, playState, played, sought, advancedClock}
 use Rattle.history.specs.Invariant.{NotBelow}
 
 pub record SoundClock (c : Clock) : Type 0 where

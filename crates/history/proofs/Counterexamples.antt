@@ -10,10 +10,10 @@ use Rattle.tween.specs.declared.loop_mode.Loop.the-variants.{Forever}
 use Rattle.steps.specs.Times.{twoF, baseOf, runOf, localTime}
 use Rattle.steps.specs.Rows.{synced, cleared, ticked, tickedIn, tickedOver, tickRow}
 use Rattle.walk.specs.Completions.{completionsBetween}
-use Rattle.track.specs.declared.clock.TimelineState.the-variants.{Completed}
-use Rattle.track.specs.Clocks.{isPlaying, isCompleted, withState, scaled, started, playState, played, seekTo as comesTo, seekState, sought}
+use Rattle.clock.specs.declared.TimelineState.the-variants.{Completed}
+use Rattle.clock.specs.Clocks.{isPlaying, isCompleted, withState, scaled, started, playState, played, seekTo as comesTo, seekState, sought, nextElapsed, advancedClock}
 use Rattle.track.specs.Tracks.{trackBase, trackRun, emptyTrack}
-use Rattle.track.specs.Updates.{aboveOne, ticks, newlyDone, tickedTo, syncedTo, playing, nextElapsed, advancedClock}
+use Rattle.track.specs.Updates.{aboveOne, ticks, newlyDone, tickedTo, syncedTo, playing}
 use Rattle.track.specs.Calls.{Room, Looping, SetTimeScale, Play, Update, sent, playRule, soughtTo, advancedTo, updated, updatedWith, trackStep}
 use Rattle.timeline.specs.declared.timeline.At.the-variants.{Start}
 use Rattle.timeline.specs.Placements.{empty, resolveStart}

@@ -7,7 +7,7 @@ use native.Mathlib.Omega.{arith}
 use lib.ListN.{length, take}
 use Rattle.steps.specs.declared.Entry.{Entry}
 use Rattle.steps.specs.declared.Stepped.{Stepped}
-use Rattle.track.specs.declared.clock.Clock.{Clock}
+use Rattle.clock.specs.declared.Clock.{Clock}
 use Rattle.track.specs.declared.track.Track.{Track}
 use Rattle.track.specs.Tracks.{live, marks, over, moved}
 use Rattle.track.proofs.Written.{length-marks}

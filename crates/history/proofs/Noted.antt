@@ -12,12 +12,12 @@ use Rattle.refusal.specs.Refusal.{accepted}
 use Rattle.tween.specs.declared.loop_mode.Loop.{Loop}
 use Rattle.tween.specs.declared.loop_mode.Loop.the-variants.{Once, Times, Forever, PingPong, PingPongTimes}
 use Rattle.steps.specs.Times.{runOf}
-use Rattle.track.specs.declared.clock.TimelineState.{TimelineState}
-use Rattle.track.specs.declared.clock.TimelineState.the-variants.{Idle, Playing, Paused, Completed}
+use Rattle.clock.specs.declared.TimelineState.{TimelineState}
+use Rattle.clock.specs.declared.TimelineState.the-variants.{Idle, Playing, Paused, Completed}
 use Rattle.track.specs.declared.track.Track.{Track}
-use Rattle.track.specs.Clocks.{isPlaying}
+use Rattle.clock.specs.Clocks.{isPlaying, nextElapsed}
 use Rattle.track.specs.Tracks.{live, trackBase, trackRun, shareOf}
-use Rattle.track.specs.Updates.{syncedTo, advanced, playing, nextElapsed}
+use Rattle.track.specs.Updates.{syncedTo, advanced, playing}
 use Rattle.track.specs.Calls.{Room, TrackOut, TrackCall, Looping, SetTimeScale, Play, Pause, Resume, Reset, Seek, SeekAbs, Update, Preview, soughtTo, advancedTo, updatedIn, updated, trackStep}
 use Rattle.timeline.specs.declared.timeline.Timeline.{Timeline}
 use Rattle.timeline.specs.Placements.{empty}

@@ -14,9 +14,8 @@ use Rattle.tween.specs.declared.loop_mode.Loop.the-variants.{Once, Times, Forev
 use Rattle.steps.specs.declared.Entry.{Entry}
 use Rattle.steps.specs.Times.{endAt, baseOf, timesRun, runIn, runOf}
 use Rattle.walk.proofs.Ends.{base-of-ends}
-use Rattle.track.specs.declared.clock.Clock.{Clock}
-use Rattle.track.specs.Clocks.{seekTo}
-use Rattle.track.specs.Updates.{nextElapsed}
+use Rattle.clock.specs.declared.Clock.{Clock}
+use Rattle.clock.specs.Clocks.{seekTo, nextElapsed}
 use Rattle.history.specs.Invariant.{NotBelow}
 
 -- ---- the base and the run

@@ -11,9 +11,9 @@ use Rattle.steps.specs.declared.Rule.{Rule}
 use Rattle.steps.specs.declared.Rule.the-variants.{Sync}
 use Rattle.steps.specs.Times.{localTime}
 use Rattle.steps.specs.Rows.{ruled}
-use Rattle.track.specs.declared.clock.Clock.{Clock}
+use Rattle.clock.specs.declared.Clock.{Clock}
 use Rattle.track.specs.declared.track.Track.{Track}
-use Rattle.track.specs.Clocks.{seekTo, sought}
+use Rattle.clock.specs.Clocks.{seekTo, sought}
 use Rattle.track.specs.Tracks.{live, trackBase, trackRun, rowsOf, moved}
 use Rattle.track.specs.Updates.{repliesBad}
 use Rattle.track.specs.Calls.{Room, TrackOut, short, unless, sent, soughtTo, updated, updatedWith}

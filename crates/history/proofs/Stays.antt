@@ -12,13 +12,13 @@ use Rattle.steps.specs.declared.Rule.{Rule}
 use Rattle.steps.specs.declared.Rule.the-variants.{Keep, Clear, Sync}
 use Rattle.steps.specs.Times.{localTime}
 use Rattle.steps.specs.Rows.{ruled}
-use Rattle.track.specs.declared.clock.Clock.{Clock}
-use Rattle.track.specs.declared.clock.TimelineState.{TimelineState}
-use Rattle.track.specs.declared.clock.TimelineState.the-variants.{Idle, Playing, Paused, Completed}
+use Rattle.clock.specs.declared.Clock.{Clock}
+use Rattle.clock.specs.declared.TimelineState.{TimelineState}
+use Rattle.clock.specs.declared.TimelineState.the-variants.{Idle, Playing, Paused, Completed}
 use Rattle.track.specs.declared.track.Track.{Track}
-use Rattle.track.specs.Clocks.{scaled, cleared, played, pausedState, paused, resumedState, resumed, seekTo, sought}
+use Rattle.clock.specs.Clocks.{scaled, cleared, played, pausedState, paused, resumedState, resumed, seekTo, sought, advancedClock}
 use Rattle.track.specs.Tracks.{live, trackBase, trackRun, shareOf, moved}
-use Rattle.track.specs.Updates.{repliesBad, Advance, playing, advancedClock}
+use Rattle.track.specs.Updates.{repliesBad, Advance, playing}
 use Rattle.track.specs.Calls.{Room, TrackCall, Looping, SetTimeScale, Play, Pause, Resume, Reset, Seek, SeekAbs, Update, Preview, TrackOut, short, unless, sent, soughtTo, advancedTo, rested, updatedIn, updated, updatedWith, previewed, withClock, trackStep}
 use Rattle.timeline.specs.Calls.{On}
 use Rattle.history.specs.Entries.{spanOf}

@@ -11,11 +11,11 @@ use Rattle.steps.specs.declared.Entry.{Entry}
 use Rattle.steps.specs.declared.Stepped.{Stepped}
 use Rattle.steps.specs.Times.{runOf, localTime}
 use Rattle.steps.specs.Rows.{synced}
-use Rattle.track.specs.declared.clock.Clock.{Clock}
+use Rattle.clock.specs.declared.Clock.{Clock}
 use Rattle.track.specs.declared.track.Track.{Track}
-use Rattle.track.specs.Clocks.{seekTo, sought}
+use Rattle.clock.specs.Clocks.{seekTo, sought, advancedClock}
 use Rattle.track.specs.Tracks.{live, trackBase, trackRun, moved}
-use Rattle.track.specs.Updates.{syncedTo, advancedClock}
+use Rattle.track.specs.Updates.{syncedTo}
 use Rattle.track.specs.Calls.{advancedTo}
 use Rattle.history.specs.Entries.{spanOf}
 use Rattle.history.specs.Invariant.{NotBelow}

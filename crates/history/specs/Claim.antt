@@ -9,9 +9,9 @@ use Rattle.float32.specs.Helpers.{zeroF, finiteF}
 use Rattle.refusal.specs.Refusal.{accepted}
 use Rattle.tween.specs.declared.loop_mode.Loop.{Loop}
 use Rattle.tween.specs.declared.loop_mode.Loop.the-variants.{Once, Times, Forever, PingPong, PingPongTimes}
-use Rattle.track.specs.declared.clock.TimelineState.{TimelineState}
-use Rattle.track.specs.declared.clock.TimelineState.the-variants.{Idle, Playing, Paused, Completed}
-use Rattle.track.specs.Clocks.{isPlaying}
+use Rattle.clock.specs.declared.TimelineState.{TimelineState}
+use Rattle.clock.specs.declared.TimelineState.the-variants.{Idle, Playing, Paused, Completed}
+use Rattle.clock.specs.Clocks.{isPlaying}
 use Rattle.track.specs.Tracks.{trackBase, trackRun}
 use Rattle.track.specs.Calls.{Room, Looping, SetTimeScale, Play, Pause, Resume, Reset, Seek, SeekAbs, Update, Preview}
 use Rattle.timeline.specs.declared.timeline.Timeline.{Timeline}

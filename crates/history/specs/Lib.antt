@@ -1,3 +1,4 @@
 pub mod Entries
 pub mod Invariant
 pub mod Claim
+pub mod Lent

@@ -1,6 +1,7 @@
 // What holds of whole lists of calls on a timeline: claims about the definitions that the calls' contracts cite. There is nothing to run.
 ghost use Rattle.history.specs.Invariant.{Kept};
 ghost use Rattle.history.specs.Claim.{Claim, PlacesAgree};
+ghost use Rattle.history.specs.Lent.{LentCalls};
 
 // Every call keeps the invariant.
 pub fn invariant_kept()
@@ -15,4 +16,9 @@ pub fn claimed()
 // Where one timeline notes its place and another seeks to it, both show the same.
 pub fn places_agree()
     ensures { λ r. ⌜ PlacesAgree ⌝ }
+{}
+
+// The calls on a lent clock are the timeline's own.
+pub fn lent_calls()
+    ensures { λ r. ⌜ LentCalls ⌝ }
 {}

@@ -2,8 +2,8 @@
 use mathlib.Core.Bool.{Bool, true, false, cond}
 use lib.Ieee.{Float}
 use Rattle.float32.specs.Helpers.{zeroF, oneF, maxF, clampF, finiteF}
-use Rattle.track.specs.declared.clock.TimelineState.{TimelineState}
-use Rattle.track.specs.declared.clock.TimelineState.the-variants.{Idle, Playing, Paused, Completed}
+use Rattle.clock.specs.declared.TimelineState.{TimelineState}
+use Rattle.clock.specs.declared.TimelineState.the-variants.{Idle, Playing, Paused, Completed}
 use Rattle.track.specs.Tracks.{trackRun, progressOf}
 use Rattle.timeline.specs.declared.introspection.AnimationKind.{AnimationKind}
 use Rattle.timeline.specs.declared.introspection.AnimationKind.the-variants.{Timeline as TimelineKind}

@@ -1,5 +1,5 @@
 // What is reported of a timeline or a group at a moment (traits.rs of animato-core).
-use track::clock::TimelineState;
+use clock::TimelineState;
 ghost use mathlib.Core.Path.{_≡_};
 ghost use Rattle.timeline.specs.Introspections.{knownDuration, playbackState, introspection};
 

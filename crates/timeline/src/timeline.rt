@@ -1,12 +1,12 @@
 // Timelines (timeline.rs), in the Rust's order.
 use crate::introspection::AnimationIntrospection;
 use crate::introspection::AnimationKind;
+use clock::TimelineState;
 use label::Found;
 use label::Label;
 use label::MAX_LABEL;
 use steps::Entry;
 use steps::MAX_ENTRIES;
-use track::clock::TimelineState;
 use track::track::Secs;
 use track::track::Share;
 use track::track::Track;
@@ -18,7 +18,7 @@ ghost use Prim.Native.Nat.{_<_};
 ghost use lib.ListN.{length, getD};
 ghost use Rattle.steps.specs.Times.{maxEntries};
 ghost use Rattle.label.specs.Label.{firstLike};
-ghost use Rattle.track.specs.Clocks.{isCompleted};
+ghost use Rattle.clock.specs.Clocks.{isCompleted};
 ghost use Rattle.track.specs.Tracks.{live, trackBase, trackRun, progressOf, blank, over, Sent};
 ghost use Rattle.track.specs.Calls.{Looping, SetTimeScale, Play, Pause, Resume, Reset, Seek, SeekAbs, Update, Preview, roomOf};
 ghost use Rattle.timeline.specs.Placements.{empty, liveLabels, startFound, namedStart, resolveStart, grown};
@@ -203,7 +203,7 @@ impl Timeline {
         ensures { λ r. ⌜ r ≡ isCompleted (self .track .clock .state) ⌝ }
     {
         let state = self.state();
-        track::clock::is_completed(state)
+        clock::is_completed(state)
     }
 
     // The playback state.

@@ -1,4 +1,5 @@
 // One call of a script: its operands are read, it is made, and its lines are printed.
+use crate::builders;
 use crate::lines;
 use crate::read;
 use crate::read::Cursor;
@@ -11,6 +12,7 @@ use crate::read::Update;
 use crate::read::least;
 use crate::text::BUFFER;
 use crate::text::Sink;
+use group::group::AnimationGroup;
 use steps::MAX_ENTRIES;
 use timeline::timeline::Added;
 use timeline::timeline::At;
@@ -63,7 +65,7 @@ impl Run {
     }
 
     // The call is not made.
-    fn cut(self) -> Run {
+    pub fn cut(self) -> Run {
         let cursor = self.cursor;
         let stopped = cursor.cut();
         let mut r = self;
@@ -72,7 +74,7 @@ impl Run {
     }
 
     // The call was made, and left this.
-    fn after(self, cursor: Cursor, sink: Sink, timeline: Timeline) -> Run {
+    pub fn after(self, cursor: Cursor, sink: Sink, timeline: Timeline) -> Run {
         Run {
             number: self.number,
             byte: self.byte,
@@ -83,41 +85,49 @@ impl Run {
     }
 
     // Prints the line of the call, which left this timeline.
-    fn line(self, buffer: &mut [u8; BUFFER], refusal: u8, timeline: Timeline) -> Sink {
+    pub fn line(self, buffer: &mut [u8; BUFFER], refusal: u8, timeline: Timeline) -> Sink {
         let sink = self.sink;
         lines::call(sink, buffer, self.number, self.byte, refusal, timeline)
     }
 }
 
-// Makes the next call. Cut so far: the calls of a group (13 and 14) and the builders (16 to 20).
+// Makes the next call.
 pub fn next(script: &[u8], buffer: &mut [u8; BUFFER], number: usize, run: Run) -> Run {
     let cursor = run.cursor;
     let read = cursor.byte(script);
     let byte = read.value;
     let r = run.at_call(number, byte, read);
     match byte {
-        0 | 3 | 5 | 6 | 11 => moving(script, buffer, r),
+        0 | 3 | 5 | 6 | 11 | 14 => moving(script, buffer, r),
         1 | 2 => steering(buffer, r),
         4 => updating(script, buffer, r),
         7 => scaling(script, buffer, r),
         8 | 9 => adding(script, buffer, r),
         10 => looping(script, buffer, r),
         12 => introspecting(buffer, r),
+        13 => builders::introspecting(buffer, r),
         15 => delaying(script, buffer, r),
+        16 | 17 | 18 | 19 => builders::building(script, buffer, r),
+        20 => builders::sequencing(script, buffer, r),
         _ => r.cut(),
     }
 }
 
-// Calls 0, 3, 5, 6 and 11: play, reset, seek, seek_abs and preview.
+// Calls 0, 3, 5, 6, 11 and 14: play, reset, seek, seek_abs, preview and a group's reverse.
 fn moving(script: &[u8], buffer: &mut [u8; BUFFER], run: Run) -> Run {
     let cursor = run.cursor;
-    let to = cursor.word_if(run.byte > 3, script);
+    let to = cursor.word_if(has_place(run.byte), script);
     let room = to.room(script);
     let next = room.next;
     if next.whole {
         return moved(buffer, run, to.float(), room);
     }
     run.cut()
+}
+
+// Seeks and previews are told where or how far.
+fn has_place(byte: u32) -> bool {
+    byte > 3 && byte < 14
 }
 
 fn moved(buffer: &mut [u8; BUFFER], run: Run, to: f32, room: Room) -> Run
@@ -167,22 +177,22 @@ fn move_by(
         3 => t.reset(kinds, amounts, places),
         5 => t.seek(Share(to), kinds, amounts, places),
         6 => t.seek_abs(Secs(to), kinds, amounts, places),
-        _ => preview(t, to, kinds, amounts, places),
-    }
-}
-
-// The preview leaves the timeline as it was.
-fn preview(
-    t: Timeline,
-    dt: f32,
-    kinds: &mut [u8],
-    amounts: &mut [f32],
-    places: &mut [f32],
-) -> Moved {
-    let refusal = t.preview(dt, kinds, amounts, places);
-    Moved {
-        refusal,
-        timeline: t,
+        11 => {
+            let refusal = t.preview(to, kinds, amounts, places);
+            Moved {
+                refusal,
+                timeline: t,
+            }
+        }
+        _ => {
+            let group = AnimationGroup::from_timeline(t);
+            let m = group.reverse(kinds, amounts, places);
+            let moved = m.group;
+            Moved {
+                refusal: m.refusal,
+                timeline: moved.timeline(),
+            }
+        }
     }
 }
 

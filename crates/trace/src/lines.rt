@@ -1,4 +1,5 @@
 // The lines that a call prints.
+use crate::builders::ITEMS;
 use crate::read::LIST;
 use crate::read::ROWS;
 use crate::read::Room;
@@ -6,6 +7,7 @@ use crate::read::least;
 use crate::text::BUFFER;
 use crate::text::Sink;
 use crate::text::digit;
+use clock::TimelineState;
 use label::Label;
 use label::MAX_LABEL;
 use steps::Entry;
@@ -16,7 +18,6 @@ use timeline::introspection::Duration;
 use timeline::introspection::PlaybackState;
 use timeline::timeline::Timeline;
 use timeline::timeline::Updated;
-use track::clock::TimelineState;
 
 // `i call refusal state elapsed scale fired count base run progress marks`
 pub fn call(
@@ -224,5 +225,24 @@ fn playback_letter(state: PlaybackState) -> u8 {
 pub fn delay(sink: Sink, buffer: &mut [u8; BUFFER], secs: f32) -> Sink {
     let s = sink.bytes(buffer, b"  delay");
     let s = s.float(buffer, b' ', secs);
+    s.byte(buffer, b'\n')
+}
+
+// `  items` and the refusal and cursor of each.
+pub fn items(
+    sink: Sink,
+    buffer: &mut [u8; BUFFER],
+    refusals: [u8; ITEMS],
+    cursors: [f32; ITEMS],
+    len: usize,
+) -> Sink {
+    let n = least(len, ITEMS);
+    let mut s = sink.bytes(buffer, b"  items");
+    let mut i = 0;
+    while i < n {
+        s = s.number(buffer, b' ', wide(refusals[i]));
+        s = s.float(buffer, b':', cursors[i]);
+        i += 1;
+    }
     s.byte(buffer, b'\n')
 }

@@ -5,6 +5,7 @@
 // and then lines of what it sent, listed or answered (lines.rt). A call whose operands run past the script or are not allowed, and
 // an unknown one, is not made: the line `cut` is written, and the rest of the script is passed over. In place of a script's text
 // its digest can be written, FNV-1a in eight hex digits.
+mod builders;
 mod calls;
 mod lines;
 mod read;

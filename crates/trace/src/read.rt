@@ -11,8 +11,8 @@ pub const ROWS: usize = 300;
 // How many places of the list are lent at most.
 pub const LIST: usize = 1000;
 
-// How many replies there are at most.
-const REPLIES: u32 = 300;
+// How many replies, or durations, there are at most.
+const MANY: u32 = 300;
 
 // Where to read on, whether all was there so far, and what was read last.
 pub struct Cursor {
@@ -60,6 +60,21 @@ pub struct Mode {
 
 pub struct Pattern {
     pub pattern: StaggerPattern,
+    pub next: Cursor,
+}
+
+// Durations: the first len values.
+pub struct Durations {
+    pub values: [f32; ROWS],
+    pub len: usize,
+    pub next: Cursor,
+}
+
+// An item of a sequence: its kind (then, then_for, gap), its label where it has one, and its seconds.
+pub struct Item {
+    pub kind: u32,
+    pub label: Span,
+    pub secs: f32,
     pub next: Cursor,
 }
 
@@ -182,7 +197,7 @@ impl Cursor {
     // The replies: their number, then a byte each.
     fn replies(self, script: &[u8]) -> Span {
         let len = self.half(script);
-        let allowed = len.at_most(REPLIES);
+        let allowed = len.at_most(MANY);
         allowed.span(script)
     }
 
@@ -256,6 +271,21 @@ impl Cursor {
         }
     }
 
+    // The same, where there is one.
+    pub fn pattern_if(self, there: bool, script: &[u8]) -> Pattern {
+        if there {
+            self.pattern(script)
+        } else {
+            Pattern {
+                pattern: StaggerPattern::CenterOut {
+                    count: 0,
+                    step: 0.0,
+                },
+                next: self,
+            }
+        }
+    }
+
     fn grid(self, script: &[u8]) -> Pattern {
         let cols = self.word(script);
         let rows = cols.word(script);
@@ -311,6 +341,48 @@ impl Cursor {
             next: step,
         }
     }
+
+    // Their number, then an f32 each.
+    pub fn durations(self, script: &[u8]) -> Durations {
+        let read = self.half(script);
+        let mut next = read.at_most(MANY);
+        let len = least(next.value as usize, ROWS);
+        let mut values = no_durations();
+        let mut i = 0;
+        while i < len {
+            next = next.word(script);
+            put(&mut values, i, next.float());
+            i += 1;
+        }
+        Durations { values, len, next }
+    }
+
+    // An item of a sequence. What then_for is told of the leaf's own duration is passed over.
+    pub fn item(self, script: &[u8]) -> Item {
+        let read = self.byte(script);
+        let kind = read.value;
+        let allowed = read.at_most(2);
+        let label = allowed.label_if(kind < 2, script);
+        let after_label = label.next;
+        let own = after_label.word_if(kind == 1, script);
+        let secs = own.word(script);
+        Item {
+            kind,
+            label,
+            secs: secs.float(),
+            next: secs,
+        }
+    }
+}
+
+fn no_durations() -> [f32; ROWS] {
+    [0.0; ROWS]
+}
+
+fn put(values: &mut [f32; ROWS], at: usize, x: f32)
+    requires { ⌜ at < 300 ⌝ }
+{
+    values[at] = x;
 }
 
 // The bytes of a span.

@@ -11,12 +11,12 @@ use lib.Ieee.{Float}
 use Rattle.refusal.specs.Refusal.{accepted, rowsTooShort, badReplies}
 use Rattle.steps.specs.declared.Rule.the-variants.{Keep}
 use Rattle.steps.specs.Rows.{ruled}
-use Rattle.track.specs.Clocks.{isPlaying, isCompleted}
+use Rattle.clock.specs.Clocks.{isPlaying, isCompleted}
 use Rattle.track.specs.Tracks.{live, rowsOf, Sent}
 use Rattle.track.specs.Updates.{aboveOne, repliesBad, playing}
 use Rattle.track.specs.Calls.{Update, Preview, Room, roomOf, TrackOut, silent, short, fitted, rested, advancedTo, updatedIn, updated, updatedWith, previewed, trackStep, updatedBy, Answered}
-use Rattle.track.specs.declared.clock.TimelineState.{TimelineState}
-use Rattle.track.specs.declared.clock.TimelineState.the-variants.{Idle, Playing, Paused, Completed}
+use Rattle.clock.specs.declared.TimelineState.{TimelineState}
+use Rattle.clock.specs.declared.TimelineState.the-variants.{Idle, Playing, Paused, Completed}
 use Rattle.track.specs.declared.track.Track.{Track}
 use Rattle.track.specs.declared.track.TrackUpdated.{TrackUpdated}
 use Rattle.track.proofs.Updating.{refusing, passing}

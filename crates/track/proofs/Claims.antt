@@ -9,11 +9,12 @@ use Rattle.tween.specs.declared.loop_mode.Loop.{Loop}
 use Rattle.tween.specs.declared.loop_mode.Loop.the-variants.{Once, Times, Forever, PingPong, PingPongTimes}
 use Rattle.steps.specs.declared.Entry.{Entry}
 use Rattle.track.specs.Tracks.{live, trackBase, rowsOf}
-use Rattle.track.specs.Updates.{nextElapsed, advanced, tickedTo, resting, playing}
+use Rattle.track.specs.Updates.{advanced, tickedTo, resting, playing}
+use Rattle.clock.specs.Clocks.{nextElapsed}
 use Rattle.track.specs.Calls.{advancedTo, updatedIn, updated}
 use Rattle.track.specs.Claims.{Claims}
-use Rattle.track.specs.declared.clock.TimelineState.{TimelineState}
-use Rattle.track.specs.declared.clock.TimelineState.the-variants.{Idle, Playing, Paused, Completed}
+use Rattle.clock.specs.declared.TimelineState.{TimelineState}
+use Rattle.clock.specs.declared.TimelineState.the-variants.{Idle, Playing, Paused, Completed}
 use Rattle.track.specs.declared.track.Track.{Track}
 use Rattle.track.proofs.Replies.{ticks-rows}
 

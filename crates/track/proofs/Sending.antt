@@ -11,7 +11,7 @@ use Rattle.steps.specs.Rows.{ruled}
 use Rattle.steps.proofs.Tests.{or-left, or-right, or-neither}
 use Rattle.track.specs.Tracks.{live, rowsOf, moved, Sent}
 use Rattle.track.specs.Calls.{Room, roomOf, TrackOut, short, sent, movedBy, withClock}
-use Rattle.track.specs.declared.clock.Clock.{Clock}
+use Rattle.clock.specs.declared.Clock.{Clock}
 use Rattle.track.specs.declared.track.Track.{Track}
 use Rattle.track.specs.declared.track.TrackMoved.{TrackMoved}
 

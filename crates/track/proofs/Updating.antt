@@ -21,12 +21,12 @@ use Rattle.walk.specs.Completions.{completionsBetween}
 use Rattle.walk.specs.declared.Counted.{Counted}
 use Rattle.walk.specs.Answers.{roomFor, Listed}
 use Rattle.walk.specs.declared.Counted.the-variants.{Within, Over}
-use Rattle.track.specs.Clocks.{isPlaying, isCompleted}
+use Rattle.clock.specs.Clocks.{isPlaying, isCompleted, nextElapsed}
 use Rattle.track.specs.Tracks.{live, trackBase, rowsOf, moved, over, Sent}
-use Rattle.track.specs.Updates.{ticks, newlyDone, Advance, isOnce, advanced, tickedTo, syncedTo, resting, nextElapsed, playing}
+use Rattle.track.specs.Updates.{ticks, newlyDone, Advance, isOnce, advanced, tickedTo, syncedTo, resting, playing}
 use Rattle.track.specs.Calls.{TrackOut, silent, unless, advancedTo, fitted, updatedIn, rested, updatedBy, finished, Answered}
-use Rattle.track.specs.declared.clock.TimelineState.{TimelineState}
-use Rattle.track.specs.declared.clock.TimelineState.the-variants.{Idle, Playing, Paused, Completed}
+use Rattle.clock.specs.declared.TimelineState.{TimelineState}
+use Rattle.clock.specs.declared.TimelineState.the-variants.{Idle, Playing, Paused, Completed}
 use Rattle.track.specs.declared.track.Track.{Track}
 use Rattle.track.specs.declared.track.TrackUpdated.{TrackUpdated}
 

@@ -14,15 +14,15 @@ use Rattle.steps.specs.declared.Rule.{Rule}
 use Rattle.steps.specs.declared.Rule.the-variants.{Keep, Clear, Sync, Restart}
 use Rattle.steps.specs.Times.{localTime}
 use Rattle.steps.specs.Rows.{ruled}
-use Rattle.track.specs.declared.clock.Clock.{Clock}
-use Rattle.track.specs.declared.clock.TimelineState.{TimelineState}
-use Rattle.track.specs.declared.clock.TimelineState.the-variants.{Idle, Playing, Paused, Completed}
+use Rattle.clock.specs.declared.Clock.{Clock}
+use Rattle.clock.specs.declared.TimelineState.{TimelineState}
+use Rattle.clock.specs.declared.TimelineState.the-variants.{Idle, Playing, Paused, Completed}
 use Rattle.track.specs.declared.track.Track.{Track}
 use Rattle.track.specs.declared.track.TrackMoved.{TrackMoved}
 use Rattle.track.specs.declared.track.TrackUpdated.{TrackUpdated}
-use Rattle.track.specs.Clocks.{isCompleted, scaled, cleared, started, played, paused, resumed, seekTo, sought}
+use Rattle.clock.specs.Clocks.{isCompleted, scaled, cleared, started, played, paused, resumed, seekTo, sought, advancedClock}
 use Rattle.track.specs.Tracks.{live, trackBase, trackRun, shareOf, rowsOf, over, moved, Sent}
-use Rattle.track.specs.Updates.{repliesBad, Advance, playing, advancedClock}
+use Rattle.track.specs.Updates.{repliesBad, Advance, playing}
 
 -- how many places of each row slice are lent
 pub record Room : Type 0 where

@@ -1,4 +1,3 @@
-pub mod Clocks
 pub mod Tracks
 pub mod Updates
 pub mod Calls

@@ -12,9 +12,9 @@ use Rattle.steps.specs.declared.Entry.{Entry}
 use Rattle.steps.specs.declared.Row.{Row}
 use Rattle.steps.specs.declared.Stepped.{Stepped}
 use Rattle.steps.specs.Times.{maxEntries, baseOf, runOf, localTime}
-use Rattle.track.specs.declared.clock.Clock.{Clock}
+use Rattle.clock.specs.declared.Clock.{Clock}
 use Rattle.track.specs.declared.track.Track.{Track}
-use Rattle.track.specs.Clocks.{newClock}
+use Rattle.clock.specs.Clocks.{newClock}
 
 -- what stands in a place that holds no entry
 abbrev pub blank : Entry

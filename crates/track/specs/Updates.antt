@@ -4,8 +4,8 @@ use mathlib.Core.Bool.{Bool, true, false, not, _&&_, _||_, cond}
 use mathlib.Core.List.{List, [], _∷_, map}
 use lib.Dec.{ltb}
 use lib.ListN.{length, take, drop, getD}
-use lib.Ieee.{Float, binary32, add, mul, le, eq}
-use Rattle.float32.specs.Helpers.{zeroF, maxF, minF}
+use lib.Ieee.{Float, le, eq}
+use Rattle.float32.specs.Helpers.{zeroF, minF}
 use Rattle.tween.specs.declared.loop_mode.Loop.{Loop}
 use Rattle.tween.specs.declared.loop_mode.Loop.the-variants.{Once, Times, Forever, PingPong, PingPongTimes}
 use Rattle.steps.specs.declared.Entry.{Entry}
@@ -15,15 +15,9 @@ use Rattle.steps.specs.declared.Rule.the-variants.{Keep, Sync}
 use Rattle.steps.specs.Times.{localTime, runOf}
 use Rattle.steps.specs.Rows.{ticked, ruled}
 use Rattle.walk.specs.Completions.{completionsBetween}
-use Rattle.track.specs.declared.clock.Clock.{Clock}
-use Rattle.track.specs.declared.clock.TimelineState.{TimelineState}
-use Rattle.track.specs.declared.clock.TimelineState.the-variants.{Idle, Playing, Paused, Completed}
+use Rattle.clock.specs.Clocks.{nextElapsed}
 use Rattle.track.specs.declared.track.Track.{Track}
 use Rattle.track.specs.Tracks.{live, trackBase}
-
--- `dt.max(0.0) * self.time_scale` after the elapsed time
-unfoldable pub nextElapsed : Clock → Float → Float
-nextElapsed c dt = add binary32 (c .elapsed) (mul binary32 (maxF dt zeroF) (c .«time_scale»))
 
 -- 4: "one of those bytes is above 1"
 unfoldable pub aboveOne : List ℕ → Bool
@@ -98,8 +92,3 @@ unfoldable pub playing : Track → Float → List ℕ → Advance
 playing k dt rs =
     cond (eq (trackBase k) zeroF) (resting (live k) (k .clock .elapsed) true)
     (advanced (k .looping) (live k) (trackBase k) (k .clock .elapsed) (nextElapsed (k .clock) dt) rs)
-
--- `complete_from_update` where the run ends: the state, and the whole-run completion, which "fires once until a reset"
-unfoldable pub advancedClock : Clock → Float → Bool → Clock
-advancedClock c elapsed ended =
-    record { elapsed = elapsed; state = cond ended Completed (c .state); «time_scale» = c .«time_scale»; «complete_fired» = ended || c .«complete_fired» }

@@ -1,6 +1,6 @@
 // The clocked calls of timeline.rs on what plays (paper 01, part 4).
-use crate::clock::Clock;
-use crate::clock::TimelineState;
+use clock::Clock;
+use clock::TimelineState;
 use steps::Entry;
 use steps::MAX_ENTRIES;
 use steps::Rule;
@@ -123,7 +123,7 @@ fn play_rule(mode: Loop, clock: Clock, base: f32) -> Rule
     let elapsed = from.elapsed;
     let t = steps::local_time(mode, base, elapsed);
     let state = clock.state;
-    if crate::clock::is_completed(state) {
+    if clock::is_completed(state) {
         if base == 0.0 {
             Rule::Clear
         } else {
@@ -136,6 +136,29 @@ fn play_rule(mode: Loop, clock: Clock, base: f32) -> Rule
             Rule::Sync(t)
         }
     }
+}
+
+// `seek_abs` in a track with this base and this run.
+fn seek_in(
+    track: Track,
+    base: f32,
+    total: f32,
+    secs: f32,
+    kinds: &mut [u8],
+    amounts: &mut [f32],
+    places: &mut [f32],
+) -> TrackMoved
+    requires { ⌜ (base ≡ trackBase track) × (total ≡ trackRun track) ⌝ }
+    ensures { λ r. ⌜ r ≡ movedBy (trackStep track (SeekAbs secs (roomOf (now (kinds .entry)) (now (amounts .entry)) (now (places .entry))))) ⌝ }
+    ensures { λ _. ⌜ Sent (trackStep track (SeekAbs secs (roomOf (now (kinds .entry)) (now (amounts .entry)) (now (places .entry)))) .rows) (now (kinds .entry)) (now (kinds .exit)) (now (amounts .entry)) (now (amounts .exit)) (now (places .entry)) (now (places .exit)) ⌝ }
+{
+    let mode = track.looping;
+    let elapsed = clock::seek_to(total, secs);
+    let t = steps::local_time(mode, base, elapsed);
+    let c = track.clock;
+    let clock = c.sought(total, elapsed);
+    let rule = Rule::Sync(t);
+    send(track, clock, rule, kinds, amounts, places)
 }
 
 // `progress` at an elapsed time.
@@ -278,7 +301,7 @@ impl Track {
         let mode = self.looping;
         let total = steps::run_of(mode, base);
         let secs = share_in(base, total, to.0);
-        self.seek_abs(Secs(secs), kinds, amounts, places)
+        seek_in(self, base, total, secs, kinds, amounts, places)
     }
 
     // `seek_abs`
@@ -295,28 +318,15 @@ impl Track {
         let base = self.duration();
         let mode = self.looping;
         let total = steps::run_of(mode, base);
-        let elapsed = crate::clock::seek_to(total, to.0);
-        let t = steps::local_time(mode, base, elapsed);
-        let c = self.clock;
-        let clock = c.sought(total, elapsed);
-        let rule = Rule::Sync(t);
-        send(self, clock, rule, kinds, amounts, places)
+        seek_in(self, base, total, to.0, kinds, amounts, places)
     }
 
     // The base: `duration`.
     pub fn duration(self) -> f32
         ensures { λ r. ⌜ r ≡ trackBase self ⌝ }
     {
-        let n = self.entry_count();
         let entries = self.entries;
-        let mut base = 0.0f32;
-        let mut i = 0usize;
-        while i < n {
-            let e = entries[i];
-            base = float32::max(base, steps::end_at(e));
-            i += 1;
-        }
-        base
+        walk::base(entries, self.count)
     }
 
     // The run: `playback_duration`.

@@ -17,7 +17,7 @@ ghost use lib.ListN.{length, take};
 ghost use lib.Seq.{sets};
 ghost use lib.Ieee.{le};
 ghost use Rattle.float32.specs.Helpers.{minF};
-ghost use Rattle.track.specs.Clocks.{isCompleted, isPlaying};
+ghost use Rattle.clock.specs.Clocks.{isCompleted, isPlaying};
 ghost use Rattle.track.specs.Tracks.{live, rowsOf, moved, over, Sent};
 ghost use Rattle.track.specs.Updates.{isOnce, aboveOne, ticks, keepIf, newlyDone, tickedTo, syncedTo, advanced, playing};
 ghost use Rattle.track.specs.Calls.{Update, Preview, roomOf, silent, rested, advancedTo, fitted, trackStep, updatedBy, finished, Answered};
@@ -349,7 +349,7 @@ fn rest(track: Track, kinds: &mut [u8], amounts: &mut [f32], places: &mut [f32])
 {
     let c = track.clock;
     let state = c.state;
-    let completed = crate::clock::is_completed(state);
+    let completed = clock::is_completed(state);
     let q = apply(track, Rule::Keep, kinds, amounts, places);
     TrackUpdated {
         refusal: refusal::ACCEPTED,
@@ -439,7 +439,7 @@ impl Track {
         }
         let c = self.clock;
         let state = c.state;
-        if crate::clock::is_playing(state) {
+        if clock::is_playing(state) {
             return play_on(self, dt, replies, list, kinds, amounts, places);
         }
         rest(self, kinds, amounts, places)
@@ -455,7 +455,7 @@ impl Track {
         }
         let c = self.clock;
         let state = c.state;
-        if crate::clock::is_playing(state) {
+        if clock::is_playing(state) {
             show_play(self, dt, kinds, amounts, places);
             return refusal::ACCEPTED;
         }

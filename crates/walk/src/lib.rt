@@ -12,7 +12,7 @@ ghost use lib.Seq.{sets};
 ghost use lib.Dec.{leb};
 ghost use lib.Ieee.{isNan, lt};
 ghost use Rattle.float32.specs.Helpers.{zeroF, maxF};
-ghost use Rattle.steps.specs.Times.{maxEntries, endAt};
+ghost use Rattle.steps.specs.Times.{maxEntries, endAt, baseOf};
 ghost use Rattle.walk.specs.Completions.{cycleStart, completes, inCycle, nextCycle, breaksAt, stopsAt, cyclesFrom, limitedTo, endlessly, walkOf, firstCycle, completionsIn, completionsBetween};
 ghost use Rattle.walk.specs.Answers.{counted, over, Listed};
 ghost use Rattle.walk.specs.Claims.{Claims};
@@ -293,6 +293,16 @@ fn base_of(ends: &[f32]) -> f32
         i += 4;
     }
     base_from(ends, i, base)
+}
+
+// The base of the first count entries: `Timeline::duration`.
+pub fn base(entries: [Entry; MAX_ENTRIES], count: usize) -> f32
+    ensures { λ r. ⌜ r ≡ baseOf (take count entries) ⌝ }
+{
+    let n = live(count);
+    let mut all = [0.0f32; MAX_ENTRIES];
+    write_ends(entries, n, &mut all);
+    base_of(&all[..n])
 }
 
 // The completions of the first count entries from prev to next, over the front of the list, where it has room for them all.

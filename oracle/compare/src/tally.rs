@@ -14,7 +14,8 @@ pub struct Tally {
     pub scripts: u64,
     pub cut: u64,
     calls: [u64; NAMES.len()],
-    refusals: [u64; 16],
+    /// By call and by number.
+    refusals: [[u64; 16]; NAMES.len()],
     items_refused: [u64; 3],
     entries_completed: u64,
     whole_runs: u64,
@@ -54,7 +55,7 @@ impl Tally {
     /// Counts a call and its answer.
     pub fn after(&mut self, timeline: &Checked, call: &Call, answer: &Answer) {
         self.calls[usize::from(call.byte())] += 1;
-        self.refusals[usize::from(answer.refusal)] += 1;
+        self.refusals[usize::from(call.byte())][usize::from(answer.refusal)] += 1;
         for (refusal, _) in answer.items.iter().flatten() {
             self.items_refused[usize::from(*refusal)] += 1;
         }
@@ -82,10 +83,18 @@ impl fmt::Display for Tally {
     fn fmt(&self, f: &mut fmt::Formatter<'_>) -> fmt::Result {
         writeln!(f, "{} scripts, {} calls:", self.scripts, self.calls())?;
         for (kind, name) in NAMES.iter().enumerate() {
-            writeln!(f, "  {kind:>2} {name:<25}{:>10}", self.calls[kind])?;
+            write!(f, "  {kind:>2} {name:<25}{:>10}", self.calls[kind])?;
+            for refusal in REFUSALS {
+                let count = self.refusals[kind][refusal];
+                if refusal != 0 && count != 0 {
+                    write!(f, ", refused by {refusal}: {count}")?;
+                }
+            }
+            writeln!(f)?;
         }
         for refusal in REFUSALS {
-            writeln!(f, "  refusal {refusal:<20}{:>10}", self.refusals[refusal])?;
+            let count: u64 = self.refusals.iter().map(|numbers| numbers[refusal]).sum();
+            writeln!(f, "  refusal {refusal:<20}{count:>10}")?;
         }
         let modes = ["Once", "Times", "Forever", "PingPong", "PingPongTimes"];
         for (mode, name) in modes.iter().enumerate() {

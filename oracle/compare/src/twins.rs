@@ -274,6 +274,7 @@ impl Twins {
 
     /// The leaves' replies to their updates.
     pub fn reply(&mut self, replies: &[u8]) {
+        self.follow();
         for player in [&self.named, &self.numbered] {
             for (record, reply) in player.records.iter().zip(replies) {
                 record.reply(*reply == 1);

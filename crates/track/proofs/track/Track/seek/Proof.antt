@@ -1,6 +1,7 @@
 -- `seek` is its step: an absolute seek to the second that the share stands for.
-use mathlib.Core.Path.{_≡_}
+use mathlib.Core.Path.{_≡_, ap, _∙_}
 use denote.Ref.{now}
+use Rattle.steps.specs.Times.{runOf}
 use Rattle.track.specs.Calls.{Seek, SeekAbs, roomOf, trackStep}
 use Rattle.track.proofs.Sending.{answers-same}
 use borrow.Author.Needs.{needs}
@@ -16,8 +17,10 @@ run-of-requires c κs = search needs
 share-in-requires : tie.Need-share-in-requires
 share-in-requires c κs = search needs
 
-seek-abs-requires : tie.Need-seek-abs-requires
-seek-abs-requires c κs = search needs
+seek-in-requires : tie.Need-seek-in-requires
+seek-in-requires c κs =
+    let base = c .before .before .before .before .before .duration .ensures in
+    (base, c .before .before .before .before .run-of .ensures ∙ ap (runOf _) base)
 
 same-length : tie.Need-same-length
 same-length c = search needs
@@ -36,7 +39,7 @@ returns c =
     let g = shared .before .before .before .before .before .before .args in
     let room = roomOf (now (g .kinds)) (now (g .amounts)) (now (g .places)) in
     let e : trackStep (g .self) (SeekAbs (shared .share-in .result) room) ≡ trackStep (g .self) (Seek (g .to .0) room) = cc in
-    answers-same _ _ _ _ _ _ _ _ _ e (sends .seek-abs .ensures)
+    answers-same _ _ _ _ _ _ _ _ _ e (sends .seek-in .ensures)
 
 pub seek-spec : {M : Type 1} → statement M
 seek-spec =
@@ -45,7 +48,7 @@ seek-spec =
     duration-requires
     run-of-requires
     share-in-requires
-    seek-abs-requires
+    seek-in-requires
     same-length
     same-length-2
     same-length-3

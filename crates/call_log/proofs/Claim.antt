@@ -1,0 +1,49 @@
+-- The claim.
+use Prim.Native.Nat.{ℕ, _+_, _<_}
+use mathlib.Core.Path.{_≡_, refl, sym, ap, _∙_}
+use mathlib.Core.Bool.{Bool, true, false}
+use mathlib.Core.List.{List, [], _++_}
+use native.Mathlib.Omega.{arith}
+use borrow.Author.Tests.{eqb-true, eqb-false}
+use lib.Dec.{eqb}
+use lib.ListN.{length, drop, length-drop}
+use Rattle.sheet_format.specs.Words.{word}
+use Rattle.sheet.specs.Build.{readingOf}
+use Rattle.call_log.specs.Lines.{shown, shownAll}
+use Rattle.call_log.specs.Logs.{isCut, sheetIn, scriptIn, sheetNumber, afterCalls, logOf, logBytes}
+use Rattle.call_log.specs.Machine.{openLine, openLog, runFrom, frontSize, printed}
+use Rattle.call_log.specs.Claim.{Prints, Claim}
+use Rattle.call_log.proofs.Fronts.{front-only}
+use Rattle.call_log.proofs.Opening.{uncut, number-cut, open-refused, open-accepted, front-size, opens-front}
+use Rattle.call_log.proofs.Runs.{closed-runs, open-runs}
+
+-- an accepted sheet is not cut
+whole : (input : List ℕ) → sheetNumber input ≡ 0 → isCut input ≡ false
+whole input e = go (isCut input) refl
+  where
+    go : (b : Bool) → isCut input ≡ b → b ≡ false
+    go true c = let n = number-cut input c in absurd (omega arith)
+    go false c = refl
+
+-- the log of a sheet that is refused, and of one that is accepted
+prints-as : (b : Bool) (input : List ℕ) → eqb (sheetNumber input) 0 ≡ b → length input < 18446744073709551615
+    → shown (openLine input) ++ runFrom (length input) (openLog input) (drop (frontSize input) input) ≡ logBytes input
+unfolding logOf shownAll afterCalls
+prints-as false input e h =
+    let o = open-refused input (eqb-false _ _ e) in
+    rw (o .0, o .1, closed-runs (length input) (drop (frontSize input) input), e)
+prints-as true input e h =
+    let n = eqb-true _ _ e in
+    let o = open-accepted input n in
+    let l = length-drop (2 + word 2 input) input in
+    let t = readingOf (sheetIn input) .timeline in
+    rw (o .0, o .1, front-size input (uncut input (whole input n)), open-runs t (scriptIn input) (length input) 0 (scriptIn input) t refl refl (omega arith) (omega arith), e)
+
+prints : Prints
+unfolding printed
+prints input h =
+    let o = opens-front input in
+    rw (o .0, o .1) (prints-as (eqb (sheetNumber input) 0) input refl h)
+
+pub claim : Claim
+claim = record { prints = prints; front-only = front-only }

@@ -1,0 +1,7 @@
+-- Laws of lines and logs.
+pub mod Writing
+pub mod Making
+pub mod Fronts
+pub mod Opening
+pub mod Runs
+pub mod Claim

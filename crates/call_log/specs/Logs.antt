@@ -1,0 +1,133 @@
+-- The log of any input (paper 01, "The door log program"), as lines and as bytes. Definitions only.
+use Prim.Native.Nat.{ℕ, zero, suc, _+_, _*_, _/_}
+use mathlib.Core.Bool.{Bool, cond, _||_}
+use mathlib.Core.List.{List, [], _∷_, map}
+use lib.Dec.{eqb, ltb}
+use lib.ListN.{length, take, drop, replicate}
+use lib.Ieee.{Float}
+use Rattle.float32.specs.Helpers.{fromBits, toBits}
+use Rattle.refusal.specs.Refusal.{accepted, sheetLength}
+use Rattle.steps.specs.Times.{maxEntries}
+use Rattle.track.specs.Tracks.{live, trackBase, trackRun}
+use Rattle.track.specs.Calls.{Room, TrackCall, SetTimeScale, Play, Pause, Resume, Reset, Seek, SeekAbs, Update}
+use Rattle.timeline.specs.declared.timeline.Timeline.{Timeline}
+use Rattle.timeline.specs.Calls.{On, Out, silent, step}
+use Rattle.sheet_format.specs.Words.{byteAt, word}
+use Rattle.sheet.specs.declared.Reading.{Reading}
+use Rattle.sheet.specs.Build.{readingOf}
+use Rattle.call_log.specs.Lines.{Line, Refused, Accepted, Called, letterOf, shownAll}
+
+-- ---- the sheet
+
+-- "a length above 2,572"
+abbrev pub maxSheet : ℕ
+maxSheet = 2572
+
+-- "u16 sheet length": its bytes
+abbrev pub lengthSize : ℕ
+lengthSize = 2
+
+-- "input that ends before the sheet does, or a length above 2,572"
+unfoldable pub isCut : List ℕ → Bool
+isCut input =
+    ltb (length input) lengthSize || (ltb maxSheet (word lengthSize input) || ltb (length input) (lengthSize + word lengthSize input))
+
+-- "u16 sheet length, the sheet, then calls"
+abbrev pub sheetIn : List ℕ → List ℕ
+sheetIn input = take (word lengthSize input) (drop lengthSize input)
+
+abbrev pub scriptIn : List ℕ → List ℕ
+scriptIn input = drop (lengthSize + word lengthSize input) input
+
+-- the number by which the sheet is refused: "7 for these two"
+unfoldable pub sheetNumber : List ℕ → ℕ
+sheetNumber input = cond (isCut input) sheetLength (readingOf (sheetIn input) .refusal)
+
+-- the line of a sheet that is accepted
+abbrev pub sheetLine : Timeline → Line
+sheetLine t = Accepted (length (live (t .track))) (toBits (trackBase (t .track))) (toBits (trackRun (t .track)))
+
+-- ---- a call
+
+-- "calls of 5 bytes: a call byte .. and an f32"
+abbrev pub callSize : ℕ
+callSize = 5
+
+-- "14: unknown call byte, or 1 to 4 bytes left over"
+abbrev pub badCall : ℕ
+badCall = 14
+
+-- "the list holds 256"
+abbrev pub listSize : ℕ
+listSize = 256
+
+-- "Leaves always reply 1"
+abbrev pub replies : List ℕ
+replies = replicate maxEntries 1
+
+-- row slices that have room for all entries
+abbrev pub room : Room
+room = record { kinds = maxEntries; amounts = maxEntries; places = maxEntries }
+
+-- a call on what plays
+abbrev pub on : Timeline → TrackCall → Out
+on t call = step t (On call)
+
+-- "0 play, 1 pause, 2 resume, 3 reset, 4 update, 5 seek, 6 seek_abs, 7 scale"; a call that is none leaves the timeline
+unfoldable pub outcome : Timeline → ℕ → Float → Out
+outcome t byte x =
+    cond (eqb byte 0) (on t (Play room))
+    (cond (eqb byte 1) (on t Pause)
+    (cond (eqb byte 2) (on t Resume)
+    (cond (eqb byte 3) (on t (Reset room))
+    (cond (eqb byte 4) (on t (Update x replies listSize room))
+    (cond (eqb byte 5) (on t (Seek x room))
+    (cond (eqb byte 6) (on t (SeekAbs x room))
+    (cond (eqb byte 7) (on t (SetTimeScale x)) (silent badCall t))))))))
+
+-- the call at the front of what is left of the script; fewer bytes than a call has are no call
+unfoldable pub outcomeAt : Timeline → List ℕ → Out
+outcomeAt t rest =
+    cond (ltb (length rest) callSize) (silent badCall t) (outcome t (byteAt rest 0) (fromBits (word 4 (drop 1 rest))))
+
+-- the line of a call with its number
+unfoldable pub callLine : ℕ → Out → Line
+callLine number o =
+    Called number (letterOf (o .timeline .track .clock .state)) (toBits (o .timeline .track .clock .elapsed)) (o .refusal) (o .listed)
+
+-- ---- the log
+
+-- the script from call i on, the first call being 0
+abbrev pub fromCall : List ℕ → ℕ → List ℕ
+fromCall script i = drop (callSize * i) script
+
+-- the timeline that the first i calls leave of t
+unfoldable pub afterCalls : Timeline → List ℕ → ℕ → Timeline
+afterCalls t script zero = t
+afterCalls t script (suc i) = outcomeAt (afterCalls t script i) (fromCall script i) .timeline
+
+-- the line of call i: "number from 1"
+abbrev pub lineAt : Timeline → List ℕ → ℕ → Line
+lineAt t script i = callLine (suc i) (outcomeAt (afterCalls t script i) (fromCall script i))
+
+-- how many lines the script has: "leftover bytes print a last line"
+abbrev pub lineCount : List ℕ → ℕ
+lineCount script = (length script + 4) / callSize
+
+-- n numbers in turn
+unfoldable pub numbersFrom : ℕ → ℕ → List ℕ
+numbersFrom i zero = []
+numbersFrom i (suc n) = i ∷ numbersFrom (suc i) n
+
+abbrev pub callLines : Timeline → List ℕ → List Line
+callLines t script = map (lineAt t script) (numbersFrom 0 (lineCount script))
+
+-- the whole log of an input, whatever its bytes
+unfoldable pub logOf : List ℕ → List Line
+logOf input =
+    let t = readingOf (sheetIn input) .timeline in
+    cond (eqb (sheetNumber input) accepted) (sheetLine t ∷ callLines t (scriptIn input)) (Refused (sheetNumber input) ∷ [])
+
+-- the bytes that are printed
+abbrev pub logBytes : List ℕ → List ℕ
+logBytes input = shownAll (logOf input)

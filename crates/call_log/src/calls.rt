@@ -1,0 +1,154 @@
+// The calls of a script, each made on a timeline. "Leaves always reply 1; the list holds 256."
+use steps::MAX_ENTRIES;
+use timeline::timeline::Moved;
+use timeline::timeline::Timeline;
+use track::track::Secs;
+use track::track::Share;
+ghost use mathlib.Core.Path.{_≡_};
+ghost use lib.ListN.{length, replicate};
+ghost use Rattle.refusal.specs.Refusal.{accepted};
+ghost use Rattle.steps.specs.Times.{maxEntries};
+ghost use Rattle.track.specs.Calls.{Play, Reset, Seek, SeekAbs, Update};
+ghost use Rattle.timeline.specs.Calls.{silent};
+ghost use Rattle.call_log.specs.Logs.{badCall, listSize, replies, room, on, outcome};
+ghost use Rattle.call_log.specs.Machine.{outcomeOf, Made};
+
+// How many completed entries an update can list.
+pub const LIST: usize = 256;
+
+// An unknown call byte, or 1 to 4 bytes left over.
+pub const BAD_CALL: u8 = 14;
+
+// What a call leaves and answers.
+pub struct Outcome {
+    pub refusal: u8,
+    pub listed: usize,
+    pub timeline: Timeline,
+}
+
+// Makes the call of this byte with this f32.
+pub fn make(t: Timeline, byte: u8, x: f32, list: &mut [u8; LIST]) -> Outcome
+    ensures { λ r. ⌜ Made (outcome t byte x) r (now (list .entry)) (now (list .exit)) ⌝ }
+{
+    match byte {
+        0 => play(t),
+        1 => set(t.pause()),
+        2 => set(t.resume()),
+        3 => reset(t),
+        4 => update(t, x, list),
+        5 => seek(t, x),
+        6 => seek_abs(t, x),
+        7 => set(t.set_time_scale(x)),
+        _ => unknown(t),
+    }
+}
+
+// A call that is none leaves the timeline.
+pub fn unknown(t: Timeline) -> Outcome
+    ensures { λ r. ⌜ r ≡ outcomeOf (silent badCall t) ⌝ }
+{
+    Outcome {
+        refusal: BAD_CALL,
+        listed: 0,
+        timeline: t,
+    }
+}
+
+// A call that refuses nothing left this.
+fn set(t: Timeline) -> Outcome
+    ensures { λ r. ⌜ r ≡ outcomeOf (silent accepted t) ⌝ }
+{
+    Outcome {
+        refusal: refusal::ACCEPTED,
+        listed: 0,
+        timeline: t,
+    }
+}
+
+// A call that lists nothing answered this.
+fn moved(m: Moved) -> Outcome
+    ensures { λ r. ⌜ r ≡ record { refusal = m .refusal; listed = 0; timeline = m .timeline } ⌝ }
+{
+    let timeline = m.timeline;
+    Outcome {
+        refusal: m.refusal,
+        listed: 0,
+        timeline,
+    }
+}
+
+fn play(t: Timeline) -> Outcome
+    ensures { λ r. ⌜ r ≡ outcomeOf (on t (Play room)) ⌝ }
+{
+    let mut kinds = kinds();
+    let mut amounts = floats();
+    let mut places = floats();
+    let m = t.play(&mut kinds, &mut amounts, &mut places);
+    moved(m)
+}
+
+fn reset(t: Timeline) -> Outcome
+    ensures { λ r. ⌜ r ≡ outcomeOf (on t (Reset room)) ⌝ }
+{
+    let mut kinds = kinds();
+    let mut amounts = floats();
+    let mut places = floats();
+    let m = t.reset(&mut kinds, &mut amounts, &mut places);
+    moved(m)
+}
+
+fn seek(t: Timeline, x: f32) -> Outcome
+    ensures { λ r. ⌜ r ≡ outcomeOf (on t (Seek x room)) ⌝ }
+{
+    let mut kinds = kinds();
+    let mut amounts = floats();
+    let mut places = floats();
+    let m = t.seek(Share(x), &mut kinds, &mut amounts, &mut places);
+    moved(m)
+}
+
+fn seek_abs(t: Timeline, x: f32) -> Outcome
+    ensures { λ r. ⌜ r ≡ outcomeOf (on t (SeekAbs x room)) ⌝ }
+{
+    let mut kinds = kinds();
+    let mut amounts = floats();
+    let mut places = floats();
+    let m = t.seek_abs(Secs(x), &mut kinds, &mut amounts, &mut places);
+    moved(m)
+}
+
+fn update(t: Timeline, x: f32, list: &mut [u8; LIST]) -> Outcome
+    ensures { λ r. ⌜ Made (on t (Update x replies listSize room)) r (now (list .entry)) (now (list .exit)) ⌝ }
+{
+    let replies = replies();
+    let mut kinds = kinds();
+    let mut amounts = floats();
+    let mut places = floats();
+    let m = t.update(x, &replies, list, &mut kinds, &mut amounts, &mut places);
+    let timeline = m.timeline;
+    Outcome {
+        refusal: m.refusal,
+        listed: m.listed,
+        timeline,
+    }
+}
+
+// Room for the rows of every entry.
+fn kinds() -> [u8; MAX_ENTRIES]
+    ensures { λ r. ⌜ maxEntries ≡ length r ⌝ }
+{
+    [0u8; MAX_ENTRIES]
+}
+
+fn floats() -> [f32; MAX_ENTRIES]
+    ensures { λ r. ⌜ maxEntries ≡ length r ⌝ }
+{
+    [0.0; MAX_ENTRIES]
+}
+
+// "Leaves always reply 1".
+fn replies() -> [u8; MAX_ENTRIES]
+    ensures { λ r. ⌜ r ≡ replies ⌝ }
+{
+    [1u8; MAX_ENTRIES]
+}

@@ -1,0 +1,195 @@
+// The door log (paper 01, "The door log program") as functions on slices: the line of the sheet, then a line for each call.
+mod calls;
+mod fields;
+mod lines;
+
+use calls::LIST;
+use calls::Outcome;
+pub use fields::LINE;
+use refusal::ACCEPTED;
+use refusal::SHEET_LENGTH;
+use sheet::Reading;
+use timeline::timeline::Timeline;
+ghost use mathlib.Core.Path.{_≡_};
+ghost use Prim.Native.Nat.{_+_, _<_, _≤_};
+ghost use lib.ListN.{length, drop};
+ghost use Rattle.sheet_format.specs.Words.{word};
+ghost use Rattle.call_log.specs.Lines.{Refused, shown};
+ghost use Rattle.call_log.specs.Logs.{isCut, callSize, listSize, outcomeAt};
+ghost use Rattle.call_log.specs.Machine.{Made, sheetRoom, closedLog, openLine, openedBy, counted, nextBytes, loggedBy, lined};
+ghost use Rattle.call_log.specs.Claim.{Claim};
+
+// The longest sheet: 64 entries, with labels of 24 bytes.
+pub const MAX_SHEET: usize = 2_572;
+
+// How many bytes a call has.
+pub const CALL: usize = 5;
+
+// A log: how many lines of calls it has, whether its sheet was accepted, and the timeline that the calls left.
+pub struct Log {
+    pub number: usize,
+    pub logging: bool,
+    pub timeline: Timeline,
+}
+
+// The answer of open: how long the line is, the number by which the sheet is refused, and the log.
+pub struct Opened {
+    pub len: usize,
+    pub refusal: u8,
+    pub log: Log,
+}
+
+// The answer of next: how long the line is, and the log.
+pub struct Logged {
+    pub len: usize,
+    pub log: Log,
+}
+
+fn wide(byte: u8) -> usize
+    ensures { λ r. ⌜ (r ≡ byte) × (r < 256) ⌝ }
+{
+    byte as usize
+}
+
+// The u16 at a place.
+fn half_at(s: &[u8], at: usize) -> usize
+    requires { ⌜ at + 2 ≤ length (now s) ⌝ }
+    ensures { λ r. ⌜ (r ≡ word 2 (drop at (now (s .entry)))) × (r < 65536) ⌝ }
+{
+    let next = at + 1;
+    wide(s[at]) + wide(s[next]) * 256
+}
+
+// How many bytes the sheet has after the two that say so. None are wanted of a sheet that is too long.
+pub fn sheet_len(input: &[u8]) -> usize
+    ensures { λ r. ⌜ r ≡ sheetRoom (now (input .entry)) ⌝ }
+{
+    if input.len() < 2 {
+        return 0;
+    }
+    let len = half_at(input, 0);
+    if len > MAX_SHEET {
+        return 0;
+    }
+    len
+}
+
+// Whether the input ends before the sheet does, or the sheet is too long.
+fn is_cut(input: &[u8]) -> bool
+    ensures { λ r. ⌜ r ≡ isCut (now (input .entry)) ⌝ }
+{
+    if input.len() < 2 {
+        return true;
+    }
+    let len = half_at(input, 0);
+    if len > MAX_SHEET {
+        return true;
+    }
+    if len > input.len() - 2 {
+        return true;
+    }
+    false
+}
+
+// Opens a log by the input's first bytes: its sheet, and maybe more. The line is the sheet's.
+pub fn open(input: &[u8], line: &mut [u8; LINE]) -> Opened
+    ensures { λ r. ⌜ r ≡ openedBy (now (input .entry)) ⌝ }
+    ensures { λ _. ⌜ now (line .exit) ≡ lined (shown (openLine (now (input .entry)))) (now (line .entry)) ⌝ }
+{
+    if is_cut(input) {
+        return refuse(SHEET_LENGTH, line);
+    }
+    let end = sheet_len(input) + 2;
+    let reading = sheet::read(&input[2..end]);
+    if reading.refusal != ACCEPTED {
+        return refuse(reading.refusal, line);
+    }
+    let timeline = reading.timeline;
+    let len = lines::accepted(line, timeline);
+    let log = Log {
+        number: 0,
+        logging: true,
+        timeline,
+    };
+    Opened {
+        len,
+        refusal: ACCEPTED,
+        log,
+    }
+}
+
+fn refuse(refusal: u8, line: &mut [u8; LINE]) -> Opened
+    ensures { λ r. ⌜ r ≡ record { len = length (shown (Refused refusal)); refusal = refusal; log = closedLog } ⌝ }
+    ensures { λ _. ⌜ now (line .exit) ≡ lined (shown (Refused refusal)) (now (line .entry)) ⌝ }
+{
+    let len = lines::refused(line, refusal);
+    let timeline = Timeline::new();
+    let log = Log {
+        number: 0,
+        logging: false,
+        timeline,
+    };
+    Opened { len, refusal, log }
+}
+
+// Makes the call at the front of what is left of the script, and writes its line. Fewer bytes than a call has are no call, and none
+// have no line; nor has a log whose sheet was refused.
+pub fn next(log: Log, rest: &[u8], line: &mut [u8; LINE]) -> Logged
+    ensures { λ r. ⌜ r ≡ loggedBy log (now (rest .entry)) ⌝ }
+    ensures { λ _. ⌜ now (line .exit) ≡ lined (nextBytes log (now (rest .entry))) (now (line .entry)) ⌝ }
+{
+    if !log.logging {
+        return Logged { len: 0, log };
+    }
+    if rest.len() == 0 {
+        return Logged { len: 0, log };
+    }
+    let mut list = empty_list();
+    let timeline = log.timeline;
+    let made = made_at(timeline, rest, &mut list);
+    let number = counted(log.number);
+    let after = made.timeline;
+    let len = lines::called(line, number, after, made.refusal, &list, made.listed);
+    let log = Log {
+        number,
+        logging: true,
+        timeline: after,
+    };
+    Logged { len, log }
+}
+
+fn empty_list() -> [u8; LIST]
+    ensures { λ r. ⌜ listSize ≡ length r ⌝ }
+{
+    [0u8; LIST]
+}
+
+// The call at the front of the script.
+fn made_at(t: Timeline, rest: &[u8], list: &mut [u8; LIST]) -> Outcome
+    ensures { λ r. ⌜ Made (outcomeAt t (now (rest .entry))) r (now (list .entry)) (now (list .exit)) ⌝ }
+{
+    if rest.len() < CALL {
+        return calls::unknown(t);
+    }
+    calls::make(t, rest[0], float32::from_bits(bits_of(rest)), list)
+}
+
+// The bits of a call's f32.
+fn bits_of(rest: &[u8]) -> u32
+    requires { ⌜ callSize ≤ length (now rest) ⌝ }
+    ensures { λ r. ⌜ r ≡ word 4 (drop 1 (now (rest .entry))) ⌝ }
+{
+    (half_at(rest, 1) + half_at(rest, 3) * 65_536) as u32
+}
+
+// The next number.
+fn counted(n: usize) -> usize
+    ensures { λ r. ⌜ r ≡ counted n ⌝ }
+{
+    if n < usize::MAX { n + 1 } else { n }
+}
+
+// What is claimed of logs, as a contract: without it the crate is not proved.
+pub fn claimed()
+    ensures { λ r. ⌜ Claim ⌝ }
+{}

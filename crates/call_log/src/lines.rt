@@ -1,0 +1,91 @@
+// The lines of a log, put into a lent array. Each answers how long the line is.
+use crate::fields::put_bits;
+use crate::fields::put_byte;
+use crate::fields::put_decimal;
+use crate::fields::put_letter;
+use crate::fields::put_number;
+use crate::fields::put_sheet;
+use clock::TimelineState;
+use timeline::timeline::Timeline;
+ghost use mathlib.Core.Path.{_≡_};
+ghost use mathlib.Core.List.{[], map};
+ghost use Prim.Native.Nat.{_+_, _*_, _<_, _≤_};
+ghost use lib.ListN.{length, take};
+ghost use Rattle.float32.specs.Helpers.{toBits};
+ghost use Rattle.digits.specs.Digits.{decimal};
+ghost use Rattle.call_log.specs.Lines.{Refused, Called, letterOf, withFields, shown, lineSize, Wrote};
+ghost use Rattle.call_log.specs.Logs.{sheetLine, listSize};
+
+// The line of a sheet that is refused.
+pub fn refused(line: &mut [u8], refusal: u8) -> usize
+    requires { ⌜ lineSize ≤ length (now line) ⌝ }
+    ensures { λ r. ⌜ Wrote (shown (Refused refusal)) 0 (now (line .entry)) (now (line .exit)) r ⌝ }
+{
+    let at = put_sheet(line);
+    let at = put_number(line, at, refusal as usize);
+    put_byte(line, at, b'\n')
+}
+
+// The line of a sheet that is accepted.
+pub fn accepted(line: &mut [u8], timeline: Timeline) -> usize
+    requires { ⌜ lineSize ≤ length (now line) ⌝ }
+    ensures { λ r. ⌜ Wrote (shown (sheetLine timeline)) 0 (now (line .entry)) (now (line .exit)) r ⌝ }
+{
+    let at = put_sheet(line);
+    let at = put_number(line, at, refusal::ACCEPTED as usize);
+    let at = put_number(line, at, timeline.entry_count());
+    let at = put_bits(line, at, timeline.duration());
+    let at = put_bits(line, at, timeline.playback_duration());
+    put_byte(line, at, b'\n')
+}
+
+fn state_letter(state: TimelineState) -> u8
+    ensures { λ r. ⌜ r ≡ letterOf state ⌝ }
+{
+    match state {
+        TimelineState::Idle => b'I',
+        TimelineState::Playing => b'P',
+        TimelineState::Paused => b'H',
+        TimelineState::Completed => b'C',
+    }
+}
+
+// The first n numbers of the list.
+fn put_list(line: &mut [u8], start: usize, list: &[u8], n: usize) -> usize
+    requires { ⌜ (n ≤ length (now list)) × (start + 4 * n ≤ length (now line)) ⌝ }
+    ensures { λ r. ⌜ Wrote (withFields [] (map decimal (take n (now (list .entry))))) start (now (line .entry)) (now (line .exit)) r × (r ≤ start + 4 * n) ⌝ }
+{
+    let mut at = start;
+    let mut i = 0usize;
+    while i < n {
+        at = put_number(line, at, wide(list[i]));
+        i += 1;
+    }
+    at
+}
+
+fn wide(byte: u8) -> usize
+    ensures { λ r. ⌜ (r ≡ byte) × (r < 256) ⌝ }
+{
+    byte as usize
+}
+
+// The line of a call.
+pub fn called(
+    line: &mut [u8],
+    number: usize,
+    timeline: Timeline,
+    refusal: u8,
+    list: &[u8],
+    listed: usize,
+) -> usize
+    requires { ⌜ (listed ≤ listSize) × (listed ≤ length (now list)) × (lineSize ≤ length (now line)) ⌝ }
+    ensures { λ r. ⌜ Wrote (shown (Called number (letterOf (timeline .track .clock .state)) (toBits (timeline .track .clock .elapsed)) refusal (take listed (now (list .entry))))) 0 (now (line .entry)) (now (line .exit)) r ⌝ }
+{
+    let at = put_decimal(line, 0, number);
+    let at = put_letter(line, at, state_letter(timeline.state()));
+    let at = put_bits(line, at, timeline.elapsed());
+    let at = put_number(line, at, refusal as usize);
+    let at = put_list(line, at, list, listed);
+    put_byte(line, at, b'\n')
+}

@@ -1,0 +1,94 @@
+-- What each call makes of a clock. Definitions only.
+use mathlib.Core.Bool.{Bool, true, false, _&&_, _||_, cond}
+use lib.Ieee.{Float, binary32, add, mul, le, eq}
+use Rattle.float32.specs.Helpers.{zeroF, oneF, maxF, minF, finiteF}
+use Rattle.clock.specs.declared.Clock.{Clock}
+use Rattle.clock.specs.declared.TimelineState.{TimelineState}
+use Rattle.clock.specs.declared.TimelineState.the-variants.{Idle, Playing, Paused, Completed}
+
+abbrev pub isPlaying : TimelineState → Bool
+isPlaying Idle = false
+isPlaying Playing = true
+isPlaying Paused = false
+isPlaying Completed = false
+
+abbrev pub isCompleted : TimelineState → Bool
+isCompleted Idle = false
+isCompleted Playing = false
+isCompleted Paused = false
+isCompleted Completed = true
+
+-- `Timeline::new`: "Idle at 0, `Once`, scale 1"
+abbrev pub newClock : Clock
+newClock = record { elapsed = zeroF; state = Idle; «time_scale» = oneF; «complete_fired» = false }
+
+unfoldable pub withState : Clock → TimelineState → Clock
+withState c s = record { elapsed = c .elapsed; state = s; «time_scale» = c .«time_scale»; «complete_fired» = c .«complete_fired» }
+
+-- `set_time_scale`: "negative and NaN become 0"
+unfoldable pub scaled : Clock → Float → Clock
+scaled c scale = record { elapsed = c .elapsed; state = c .state; «time_scale» = maxF scale zeroF; «complete_fired» = c .«complete_fired» }
+
+-- `reset`, which re-arms the whole-run completion
+unfoldable pub cleared : Clock → Clock
+cleared c = record { elapsed = zeroF; state = Idle; «time_scale» = c .«time_scale»; «complete_fired» = false }
+
+-- the clock from which `play` goes on: `if self.state == Completed { self.reset() }`
+unfoldable pub started : Clock → Clock
+started c = cond (isCompleted (c .state)) (cleared c) c
+
+-- `play`: Completed where the base is 0, else Playing
+unfoldable pub playState : Float → TimelineState
+playState base = cond (eq base zeroF) Completed Playing
+
+unfoldable pub played : Clock → Float → Clock
+played c base = withState (started c) (playState base)
+
+-- `pause`
+abbrev pub pausedState : TimelineState → TimelineState
+pausedState Idle = Idle
+pausedState Playing = Paused
+pausedState Paused = Paused
+pausedState Completed = Completed
+
+unfoldable pub paused : Clock → Clock
+paused c = withState c (pausedState (c .state))
+
+-- `resume`
+abbrev pub resumedState : TimelineState → TimelineState
+resumedState Idle = Idle
+resumedState Playing = Playing
+resumedState Paused = Playing
+resumedState Completed = Completed
+
+unfoldable pub resumed : Clock → Clock
+resumed c = withState c (resumedState (c .state))
+
+-- where `seek_abs` comes to, in a run of length total: at least 0, and at most the run if that is finite
+unfoldable pub seekTo : Float → Float → Float
+seekTo total secs = cond (finiteF total) (minF (maxF secs zeroF) total) (maxF secs zeroF)
+
+-- the state after a seek that does not reach the end
+abbrev pub unended : TimelineState → TimelineState
+unended Idle = Idle
+unended Playing = Playing
+unended Paused = Paused
+unended Completed = Playing
+
+-- the state after a seek: Completed where the run is finite and reached
+unfoldable pub seekState : Float → Float → TimelineState → TimelineState
+seekState total elapsed s = cond (finiteF total && le total elapsed) Completed (unended s)
+
+-- `seek_abs` that comes to elapsed: it "neither fires nor re-arms" the whole-run completion
+unfoldable pub sought : Clock → Float → Float → Clock
+sought c total elapsed =
+    record { elapsed = elapsed; state = seekState total elapsed (c .state); «time_scale» = c .«time_scale»; «complete_fired» = c .«complete_fired» }
+
+-- `dt.max(0.0) * self.time_scale` after the elapsed time
+unfoldable pub nextElapsed : Clock → Float → Float
+nextElapsed c dt = add binary32 (c .elapsed) (mul binary32 (maxF dt zeroF) (c .«time_scale»))
+
+-- `complete_from_update` where the run ends: the state, and the whole-run completion, which "fires once until a reset"
+unfoldable pub advancedClock : Clock → Float → Bool → Clock
+advancedClock c elapsed ended =
+    record { elapsed = elapsed; state = cond ended Completed (c .state); «time_scale» = c .«time_scale»; «complete_fired» = ended || c .«complete_fired» }

@@ -1,0 +1,250 @@
+// The clock of a timeline, and what each call makes of it (timeline.rs; paper 01, part 4).
+ghost use mathlib.Core.Path.{_≡_};
+ghost use mathlib.Core.Bool.{cond};
+ghost use Rattle.clock.specs.Clocks.{isPlaying, isCompleted, withState, scaled, cleared, started, playState, played, pausedState, paused, resumedState, resumed, unended, seekTo, seekState, sought, nextElapsed, advancedClock};
+
+// The playback state of a timeline.
+pub enum TimelineState {
+    // Ready, and not advancing.
+    Idle,
+    // Advancing.
+    Playing,
+    // Stopped on the way.
+    Paused,
+    // At the end of a finite run.
+    Completed,
+}
+
+// Seconds of play so far, the state, the time scale, and whether the whole-run completion has fired since the last reset.
+pub struct Clock {
+    pub elapsed: f32,
+    pub state: TimelineState,
+    pub time_scale: f32,
+    pub complete_fired: bool,
+}
+
+pub fn is_playing(state: TimelineState) -> bool
+    ensures { λ r. ⌜ r ≡ isPlaying state ⌝ }
+{
+    match state {
+        TimelineState::Idle => false,
+        TimelineState::Playing => true,
+        TimelineState::Paused => false,
+        TimelineState::Completed => false,
+    }
+}
+
+pub fn is_completed(state: TimelineState) -> bool
+    ensures { λ r. ⌜ r ≡ isCompleted state ⌝ }
+{
+    match state {
+        TimelineState::Idle => false,
+        TimelineState::Playing => false,
+        TimelineState::Paused => false,
+        TimelineState::Completed => true,
+    }
+}
+
+fn pause_state(state: TimelineState) -> TimelineState
+    ensures { λ r. ⌜ r ≡ pausedState state ⌝ }
+{
+    match state {
+        TimelineState::Idle => TimelineState::Idle,
+        TimelineState::Playing => TimelineState::Paused,
+        TimelineState::Paused => TimelineState::Paused,
+        TimelineState::Completed => TimelineState::Completed,
+    }
+}
+
+fn resume_state(state: TimelineState) -> TimelineState
+    ensures { λ r. ⌜ r ≡ resumedState state ⌝ }
+{
+    match state {
+        TimelineState::Idle => TimelineState::Idle,
+        TimelineState::Playing => TimelineState::Playing,
+        TimelineState::Paused => TimelineState::Playing,
+        TimelineState::Completed => TimelineState::Completed,
+    }
+}
+
+// What a seek that does not reach the end makes of a state.
+fn unend(state: TimelineState) -> TimelineState
+    ensures { λ r. ⌜ r ≡ unended state ⌝ }
+{
+    match state {
+        TimelineState::Idle => TimelineState::Idle,
+        TimelineState::Playing => TimelineState::Playing,
+        TimelineState::Paused => TimelineState::Paused,
+        TimelineState::Completed => TimelineState::Playing,
+    }
+}
+
+fn play_state(base: f32) -> TimelineState
+    ensures { λ r. ⌜ r ≡ playState base ⌝ }
+{
+    if base == 0.0 {
+        TimelineState::Completed
+    } else {
+        TimelineState::Playing
+    }
+}
+
+fn seek_state(total: f32, elapsed: f32, state: TimelineState) -> TimelineState
+    ensures { λ r. ⌜ r ≡ seekState total elapsed state ⌝ }
+{
+    if float32::is_finite(total) {
+        if elapsed >= total {
+            TimelineState::Completed
+        } else {
+            unend(state)
+        }
+    } else {
+        unend(state)
+    }
+}
+
+// Where a seek to these seconds comes to, in a run of this length.
+pub fn seek_to(total: f32, secs: f32) -> f32
+    ensures { λ r. ⌜ r ≡ seekTo total secs ⌝ }
+{
+    let least = float32::max(secs, 0.0);
+    if float32::is_finite(total) {
+        float32::min(least, total)
+    } else {
+        least
+    }
+}
+
+impl Clock {
+    fn with_state(self, state: TimelineState) -> Clock
+        ensures { λ r. ⌜ r ≡ withState self state ⌝ }
+    {
+        Clock {
+            elapsed: self.elapsed,
+            state,
+            time_scale: self.time_scale,
+            complete_fired: self.complete_fired,
+        }
+    }
+
+    // `set_time_scale`: negative and NaN become 0.
+    pub fn scaled(self, scale: f32) -> Clock
+        ensures { λ r. ⌜ r ≡ scaled self scale ⌝ }
+    {
+        let time_scale = float32::max(scale, 0.0);
+        let mut c = self;
+        c.time_scale = time_scale;
+        c
+    }
+
+    // `reset`
+    pub fn cleared(self) -> Clock
+        ensures { λ r. ⌜ r ≡ cleared self ⌝ }
+    {
+        Clock {
+            elapsed: 0.0,
+            state: TimelineState::Idle,
+            time_scale: self.time_scale,
+            complete_fired: false,
+        }
+    }
+
+    // The clock from which `play` goes on: reset, where it is Completed.
+    pub fn started(self) -> Clock
+        ensures { λ r. ⌜ r ≡ started self ⌝ }
+    {
+        let state = self.state;
+        if is_completed(state) {
+            self.cleared()
+        } else {
+            self
+        }
+    }
+
+    // `play`, with this base.
+    pub fn played(self, base: f32) -> Clock
+        ensures { λ r. ⌜ r ≡ played self base ⌝ }
+    {
+        let from = self.started();
+        let state = play_state(base);
+        from.with_state(state)
+    }
+
+    // `pause`
+    pub fn paused(self) -> Clock
+        ensures { λ r. ⌜ r ≡ paused self ⌝ }
+    {
+        let state = self.state;
+        let next = pause_state(state);
+        self.with_state(next)
+    }
+
+    // `resume`
+    pub fn resumed(self) -> Clock
+        ensures { λ r. ⌜ r ≡ resumed self ⌝ }
+    {
+        let state = self.state;
+        let next = resume_state(state);
+        self.with_state(next)
+    }
+
+    // `seek_abs` that comes to elapsed, in a run of this length.
+    pub fn sought(self, total: f32, elapsed: f32) -> Clock
+        ensures { λ r. ⌜ r ≡ sought self total elapsed ⌝ }
+    {
+        let state = self.state;
+        let next = seek_state(total, elapsed, state);
+        Clock {
+            elapsed,
+            state: next,
+            time_scale: self.time_scale,
+            complete_fired: self.complete_fired,
+        }
+    }
+    // The elapsed time to which `update` would go, in a run without end.
+    pub fn next_elapsed(self, dt: f32) -> f32
+        ensures { λ r. ⌜ r ≡ nextElapsed self dt ⌝ }
+    {
+        let step = float32::max(dt, 0.0) * self.time_scale;
+        self.elapsed + step
+    }
+
+    // `update` that comes to elapsed. Where the run ends there it is Completed, and the whole-run completion has fired.
+    pub fn advanced(self, elapsed: f32, ended: bool) -> Clock
+        ensures { λ r. ⌜ r ≡ advancedClock self elapsed ended ⌝ }
+    {
+        if ended {
+            Clock {
+                elapsed,
+                state: TimelineState::Completed,
+                time_scale: self.time_scale,
+                complete_fired: true,
+            }
+        } else {
+            let mut c = self;
+            c.elapsed = elapsed;
+            c
+        }
+    }
+}
+
+// `pause` on a clock that the caller lends, as `&mut self` in group.rs; so are the next two.
+pub fn pause(clock: &mut Clock)
+    ensures { λ _. ⌜ now (clock .exit) ≡ paused (now (clock .entry)) ⌝ }
+{
+    *clock = clock.paused();
+}
+
+// `resume`
+pub fn resume(clock: &mut Clock)
+    ensures { λ _. ⌜ now (clock .exit) ≡ resumed (now (clock .entry)) ⌝ }
+{
+    *clock = clock.resumed();
+}
+
+// `set_time_scale`
+pub fn set_time_scale(clock: &mut Clock, scale: f32)
+    ensures { λ _. ⌜ now (clock .exit) ≡ scaled (now (clock .entry)) scale ⌝ }
+{
+    *clock = clock.scaled(scale);
+}
