@@ -18,7 +18,11 @@ use Rattle.sheet_format.specs.Descriptions.{emptyDescription, loopOf, placement
 use Rattle.sheet.specs.Build.{callsFrom, callsOf, readingOf}
 use Rattle.call_log.specs.Lines.{shown, shownAll}
 use Rattle.call_log.specs.Logs.{isCut, sheetNumber, outcome, outcomeAt, callLine, afterCalls, numbersFrom, logOf, logBytes}
-use Rattle.call_log.specs.Claim.{exampleInput, exampleLog}
+use Rattle.call_log.specs.Claim.{NanShown, exampleInput, exampleLog}
+
+pub nan-shown : NanShown
+unfolding shown codeOf digits decimalPlacesFrom decimalPlaces decimal toBits
+nan-shown = refl
 
 pub worked : logBytes exampleInput ≡ exampleLog
 unfolding exampleInput exampleLog logOf numbersFrom afterCalls callLine outcomeAt outcome sheetNumber isCut shownAll shown readingOf callsOf callsFrom descriptionIn itemsFrom placementOf loopOf emptyDescription checkNumber recordsNumber recordNumber pairsNumber headerNumber word step after addedAt empty namedStart resolveStart trackStep updatedWith updated rested advancedTo soughtTo playRule sent nextElapsed aboveOne ticks newlyDone tickedTo syncedTo playing advancedClock emptyTrack progressIn shareIn clocks.withState clocks.scaled clocks.cleared clocks.started clocks.playState clocks.played clocks.paused clocks.resumed clocks.seekTo clocks.seekState clocks.sought sameText firstFrom firstLike untouched cleared synced tickRow tickedOver tickedIn ticked resetFirst baseOf timesRun runOf timesLocal pingPong localTime codeOf digits decimalPlacesFrom decimalPlaces decimal maxF minF clampF add sub mul div rem neg ofInt ofBits toBits toUnsigned isNan lt le eq

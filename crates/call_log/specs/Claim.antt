@@ -3,7 +3,10 @@ use Prim.Native.Nat.{ℕ, _≤_, _<_}
 use mathlib.Core.Path.{_≡_}
 use mathlib.Core.List.{List, [], _∷_}
 use lib.ListN.{length, take}
+use lib.Ieee.{nan}
+use Rattle.float32.specs.Helpers.{toBits}
 use Rattle.call_log.specs.declared.Log.{Log}
+use Rattle.call_log.specs.Lines.{Called, shown}
 use Rattle.call_log.specs.Logs.{callSize, logBytes}
 use Rattle.call_log.specs.Machine.{lastNumber, nextLines, nextLog, printed}
 
@@ -45,8 +48,13 @@ exampleLog =
     ∷ 51 ∷ 32 ∷ 67 ∷ 32 ∷ 51 ∷ 102 ∷ 99 ∷ 48 ∷ 48 ∷ 48 ∷ 48 ∷ 48 ∷ 32 ∷ 48 ∷ 32 ∷ 49 ∷ 10
     ∷ []
 
+-- "NaN as 7fc00000": `1 P 7fc00000 0`
+abbrev pub NanShown : Type 0
+NanShown = shown (Called 1 80 (toBits nan) 0 []) ≡ 49 ∷ 32 ∷ 80 ∷ 32 ∷ 55 ∷ 102 ∷ 99 ∷ 48 ∷ 48 ∷ 48 ∷ 48 ∷ 48 ∷ 32 ∷ 48 ∷ 10 ∷ []
+
 -- all of it, which `claimed` carries
 pub record Claim : Type 0 where
   pub prints : Prints
   pub front-only : FrontOnly
+  pub nan-shown : NanShown
   pub worked : logBytes exampleInput ≡ exampleLog
