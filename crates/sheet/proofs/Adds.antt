@@ -6,6 +6,7 @@ use native.Mathlib.Omega.{arith}
 use borrow.Author.Tests.{lt-ltb, le-ltb}
 use lib.ListN.{length, take, drop, getD, length-take}
 use lib.Seq.{getD-take}
+use Rattle.float32.specs.Helpers.{fromBits}
 use Rattle.label.specs.Label.{text}
 use Rattle.label.proofs.Text.{take-taken}
 use lib.Ieee.{Float}
@@ -17,7 +18,7 @@ use Rattle.timeline.specs.Calls.{Add, AddAtLabel, step, after, addedBy}
 use Rattle.sheet_format.specs.declared.description.Placement.{Placement}
 use Rattle.sheet_format.specs.declared.description.Item.{Item}
 use Rattle.sheet_format.proofs.Turns.{live-cons, live-end}
-use Rattle.sheet.specs.Build.{float, noItem, placedCall, namedCall, callAt, callsFrom}
+use Rattle.sheet.specs.Build.{noItem, placedCall, namedCall, callAt, callsFrom}
 
 -- an entry that was added, by equal arguments
 pub placed : (t : Timeline) (r : Added) (name text' : List ℕ) (at at' : At) (d d' : Float) → r ≡ addedBy (step t (Add name at d)) → name ≡ text' → at ≡ at' → d ≡ d'
@@ -48,7 +49,7 @@ module _ (n k : ℕ) (items : List Item) (x : Item) (h : n ≤ length items) whe
   pub named-none : n ≤ k → namedCall (take n items) k x ≡ placedCall x
   named-none l = rw (size, le-ltb k n l)
 
-  pub named-some : k < n → namedCall (take n items) k x ≡ AddAtLabel (text (x .label)) (text (getD items k noItem .label)) (float (x .duration))
+  pub named-some : k < n → namedCall (take n items) k x ≡ AddAtLabel (text (x .label)) (text (getD items k noItem .label)) (fromBits (x .duration))
   named-some l = rw (size, lt-ltb k n l, getD-take n items k noItem l)
 
 module _ (n i : ℕ) (items : List Item) where

@@ -1,19 +1,26 @@
--- The claim: reading back, rewriting and building.
+-- The claim: reading back, rewriting, and what covers the timelines that are read.
 use Prim.Native.Nat.{ℕ, _≤_}
-use mathlib.Core.Path.{_≡_, _∙_}
-use mathlib.Core.List.{List}
+use mathlib.Core.Path.{_≡_, refl, _∙_}
+use mathlib.Core.Bool.{Bool, true, false, cond}
+use mathlib.Core.List.{List, []}
 use borrow.Author.Tests.{leb-true}
-use lib.Dec.{leb}
+use lib.Dec.{eqb, leb}
 use lib.ListN.{length}
+use Rattle.timeline.specs.declared.timeline.Timeline.{Timeline}
+use Rattle.timeline.specs.Placements.{empty}
+use Rattle.timeline.specs.Calls.{Call, after}
+use Rattle.history.proofs.Covered as history
 use Rattle.sheet_format.specs.declared.description.Description.{Description}
 use Rattle.sheet_format.specs.Check.{checkNumber}
 use Rattle.sheet_format.specs.Descriptions.{descriptionIn, describedBy}
 use Rattle.sheet_format.specs.Write.{sheetOf, describeNumber, writeNumber}
 use Rattle.sheet_format.proofs.Accepted.{passed, in-turn, accepted-sheet}
 use Rattle.sheet_format.proofs.Sheets.{write-whole}
-use Rattle.sheet.specs.Build.{readingOf}
-use Rattle.sheet.specs.Claim.{ReadsBack, Rewrites, Builds, Claim}
+use Rattle.sheet.specs.declared.Reading.{Reading}
+use Rattle.sheet.specs.Build.{callsOf, built, readCalls, readingOf}
+use Rattle.sheet.specs.Claim.{ReadsBack, Rewrites, Covered, Claim}
 use Rattle.sheet.proofs.Rewrite.{sheet-same, described-good}
+use Rattle.sheet.proofs.Taken.{taken}
 use Rattle.sheet.proofs.ReadBack.{check-accepts, accepts, says}
 
 -- what the writer accepts can be described, and has room
@@ -41,9 +48,25 @@ rewrites s room y e h =
     let w = write-whole (descriptionIn s) room (described-good s y a) (rw same h) in
     (w .0, w .1 ∙ same)
 
-builds : Builds
-unfolding readingOf
-builds s e = rw e
+-- what is chosen is what its calls make
+chosen : (b : Bool) (x y : Reading) (calls : List Call) → x .timeline ≡ after empty calls → y .timeline ≡ empty → cond b x y .timeline ≡ after empty (cond b calls [])
+unfolding after
+chosen true x y calls e f = e
+chosen false x y calls e f = f
+
+read-made : (s : List ℕ) → readingOf s .timeline ≡ after empty (readCalls s)
+unfolding readingOf readCalls
+read-made s = chosen (eqb (checkNumber s) 0) _ _ _ refl refl
+
+covered : (calls : List Call) (t : Timeline) → t ≡ after empty calls → Covered calls t
+covered calls t e = record { made = e; seeks = history.covered t calls e; sound = history.covered-sound t calls e }
 
 pub claim : Claim
-claim = record { reads-back = reads-back; rewrites = rewrites; builds = builds }
+claim =
+    record {
+      reads-back = reads-back;
+      rewrites = rewrites;
+      reads = λ s. covered (readCalls s) (readingOf s .timeline) (read-made s);
+      builds = λ d. covered (callsOf d) (built d) refl;
+      takes = taken;
+    }

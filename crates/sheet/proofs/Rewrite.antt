@@ -152,15 +152,17 @@ module _ (s : List ℕ) where
 
 -- ---- the whole sheet
 
-module _ (s : List ℕ) (y : Bytes s) (a : Accepted s) where
-  count-same : descriptionIn s .count ≡ countIn s
+-- what is described: the count, and the entries
+module _ (s : List ℕ) where
+  pub count-same : descriptionIn s .count ≡ countIn s
   unfolding descriptionIn
   count-same = refl
 
-  items-same : itemsIn (descriptionIn s) ≡ sheetItems s
+  pub items-same : itemsIn (descriptionIn s) ≡ sheetItems s
   unfolding descriptionIn
   items-same = take-at (sheetItems s) (replicate (maxEntries - countIn s) blankItem) (countIn s) (length-itemsFrom s (countIn s) (drop headerSize s) (drop (recordsAt (countIn s)) s))
 
+module _ (s : List ℕ) (y : Bytes s) (a : Accepted s) where
   header-same : headerBytes (countIn s) (loopOf (byteAt s 2) (word 4 (drop 4 s))) (word 4 (drop 8 s)) ≡ take 12 s
   unfolding headerBytes
   header-same =
@@ -185,7 +187,7 @@ module _ (s : List ℕ) (y : Bytes s) (a : Accepted s) where
       let f : recordsOf (sheetItems s) ++ textsOf (sheetItems s) ≡ rs = rw (t, ← d) r in
       let g : drop (pairSize * k) ps ≡ rs = drop-drop (pairSize * k) headerSize s in
       let q = rw g at p in
-      rw (items-same, header-same, f, q) (take-append-drop 12 s)
+      rw (items-same s, header-same, f, q) (take-append-drop 12 s)
 
   pub described-good : describeNumber (descriptionIn s) ≡ 0
   unfolding describeNumber descriptionIn labelsGood targetsGood
@@ -193,4 +195,4 @@ module _ (s : List ℕ) (y : Bytes s) (a : Accepted s) where
       let h = a .header in
       let lr = length-drop (recordsAt (countIn s)) s in
       let t = targets-good s (countIn s) (countIn s) (drop headerSize s) (drop (recordsAt (countIn s)) s) (omega arith) (bytes-drop (recordsAt (countIn s)) s y) (a .records) in
-      rw (count-same, le-leb (countIn s) maxEntries (h .few), items-same, labels-good s (countIn s) (drop headerSize s) (drop (recordsAt (countIn s)) s), t)
+      rw (count-same s, le-leb (countIn s) maxEntries (h .few), items-same s, labels-good s (countIn s) (drop headerSize s) (drop (recordsAt (countIn s)) s), t)

@@ -1,19 +1,22 @@
--- What is claimed of sheets: they read back as they were described, are rewritten byte for byte, and build what their calls build.
+-- What is claimed of sheets: they read back as they were described, are rewritten byte for byte, and build what their calls build, which the claim of crate history covers.
 use Prim.Native.Nat.{ℕ, _^_, _≤_, _<_}
 use mathlib.Core.Path.{_≡_}
-use mathlib.Core.List.{List}
+use mathlib.Core.List.{List, [], _∷_}
 use lib.ListN.{length, getD}
 use Rattle.refusal.specs.Refusal.{accepted}
 use Rattle.steps.specs.Times.{maxEntries}
 use Rattle.label.specs.Label.{maxLabel}
+use Rattle.timeline.specs.declared.timeline.Timeline.{Timeline}
 use Rattle.timeline.specs.Placements.{empty}
-use Rattle.timeline.specs.Calls.{after}
+use Rattle.timeline.specs.Calls.{Call, step, after}
+use Rattle.history.specs.Invariant.{Invariant}
+use Rattle.history.specs.Claim.{Seeks}
 use Rattle.sheet_format.specs.declared.description.Item.{Item}
 use Rattle.sheet_format.specs.declared.description.Description.{Description}
 use Rattle.sheet_format.specs.Check.{checkNumber}
 use Rattle.sheet_format.specs.Descriptions.{blankItem, descriptionIn, describedBy, cleaned}
 use Rattle.sheet_format.specs.Write.{numberOf, secondsOf, writeNumber, writtenBytes}
-use Rattle.sheet.specs.Build.{callsOf, readingOf}
+use Rattle.sheet.specs.Build.{callsOf, built, readCalls, readingOf}
 
 -- the numbers of an entry fit their types
 pub record TypedItem (x : Item) : Type 0 where
@@ -38,12 +41,23 @@ Rewrites =
     (s : List ℕ) (room : ℕ) → ((i : ℕ) → getD s i 0 < 256) → checkNumber s ≡ accepted → length s ≤ room
     → (writeNumber (descriptionIn s) room ≡ accepted) × (writtenBytes (descriptionIn s) room ≡ s)
 
--- an accepted sheet's timeline is what its calls leave of the empty one
-abbrev pub Builds : Type 0
-Builds = (s : List ℕ) → checkNumber s ≡ accepted → readingOf s .timeline ≡ after empty (callsOf (readingOf s .described))
+-- no call of the list is refused
+abbrev pub AllAccepted : Timeline → List Call → Type 0
+AllAccepted t [] = Unit
+AllAccepted t (call ∷ calls) = (step t call .refusal ≡ accepted) × AllAccepted (step t call .timeline) calls
+
+-- "Readers and builders hand out what such lists give": so the claim of crate history and its invariant hold of the timeline t
+pub record Covered (calls : List Call) (t : Timeline) : Type 0 where
+  pub made : t ≡ after empty calls
+  pub seeks : Seeks calls t
+  pub sound : Invariant t
 
 -- all of it, which `claimed` carries
 pub record Claim : Type 0 where
   pub reads-back : ReadsBack
   pub rewrites : Rewrites
-  pub builds : Builds
+  -- what is read from any bytes, and what any description builds
+  pub reads : (s : List ℕ) → Covered (readCalls s) (readingOf s .timeline)
+  pub builds : (d : Description) → Covered (callsOf d) (built d)
+  -- every entry of an accepted sheet is in its timeline
+  pub takes : (s : List ℕ) → AllAccepted empty (readCalls s)

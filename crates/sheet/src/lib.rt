@@ -11,10 +11,11 @@ use timeline::timeline::Timeline;
 ghost use mathlib.Core.Path.{_≡_};
 ghost use Prim.Native.Nat.{_≤_, min};
 ghost use lib.ListN.{length, take};
+ghost use Rattle.float32.specs.Helpers.{fromBits};
 ghost use Rattle.steps.specs.Times.{maxEntries};
 ghost use Rattle.label.specs.Label.{text};
 ghost use Rattle.timeline.specs.Calls.{Call, AddAtLabel, step, after};
-ghost use Rattle.sheet.specs.Build.{float, atOf, placedCall, namedCall, callAt, built, readingOf};
+ghost use Rattle.sheet.specs.Build.{atOf, placedCall, namedCall, callAt, built, readingOf};
 ghost use Rattle.sheet.specs.Claim.{Claim};
 
 // The answer of read.
@@ -24,27 +25,16 @@ pub struct Reading {
     pub timeline: Timeline,
 }
 
-// The float that its bits say. Every NaN's bits say the one NaN.
-fn float_of(bits: u32) -> f32
-    ensures { λ r. ⌜ r ≡ float bits ⌝ }
-{
-    let magnitude = bits % 0x8000_0000;
-    if magnitude > 0x7f80_0000 {
-        return 0.0 / 0.0;
-    }
-    f32::from_bits(bits)
-}
-
 // A placement, with floats.
 fn at_of(at: Placement) -> At
     ensures { λ r. ⌜ r ≡ atOf at ⌝ }
 {
     match at {
-        Placement::Absolute(seconds) => At::Absolute(float_of(seconds)),
+        Placement::Absolute(seconds) => At::Absolute(float32::from_bits(seconds)),
         Placement::Start => At::Start,
         Placement::End => At::End,
         Placement::Label(_) => At::End,
-        Placement::Offset(seconds) => At::Offset(float_of(seconds)),
+        Placement::Offset(seconds) => At::Offset(float32::from_bits(seconds)),
     }
 }
 
@@ -57,13 +47,13 @@ fn add_placed(timeline: Timeline, item: Item) -> Timeline
     let bytes = label.bytes;
     let placement = item.at;
     let at = at_of(placement);
-    let added = timeline.add(&bytes[..len], at, float_of(item.duration));
+    let added = timeline.add(&bytes[..len], at, float32::from_bits(item.duration));
     added.timeline
 }
 
 // The timeline with an entry where the first one with the target's label starts.
 fn add_named(timeline: Timeline, item: Item, target: Item) -> Timeline
-    ensures { λ r. ⌜ r ≡ step timeline (AddAtLabel (text (item .label)) (text (target .label)) (float (item .duration))) .timeline ⌝ }
+    ensures { λ r. ⌜ r ≡ step timeline (AddAtLabel (text (item .label)) (text (target .label)) (fromBits (item .duration))) .timeline ⌝ }
 {
     let label = item.label;
     let len = text_len(label);
@@ -74,7 +64,7 @@ fn add_named(timeline: Timeline, item: Item, target: Item) -> Timeline
     let added = timeline.add_at_label(
         &bytes[..len],
         &name_bytes[..name_len],
-        float_of(item.duration),
+        float32::from_bits(item.duration),
     );
     added.timeline
 }
@@ -125,7 +115,7 @@ pub fn build(described: Description) -> Timeline
     let n = at_most(described.count, MAX_ENTRIES);
     let items = described.items;
     let looping = described.looping;
-    let scale = float_of(described.time_scale);
+    let scale = float32::from_bits(described.time_scale);
     let mut timeline = Timeline::new().looping(looping).set_time_scale(scale);
     let mut i = 0usize;
     while i < n {

@@ -5,14 +5,17 @@ mod bench;
 mod call;
 mod cases;
 mod checked;
+mod damage;
 mod debug;
 mod floats;
 mod leaf;
 mod port;
+mod reader;
 mod record;
 mod rng;
 mod rules;
 mod scripts;
+mod sheets;
 mod tally;
 mod trace;
 mod traces;
@@ -29,6 +32,8 @@ const USAGE: &str = "usage:
   oracle trace | trace-text | trace-digests
   oracle traces [--seed N] [--scripts N] [--least-calls N] [--calls KINDS] [--port COMMAND]
   oracle trace-sample [--calls KINDS]
+  oracle sheets [--seed N] [--sheets N] [--least N] [--port COMMAND]
+  oracle sheet-sample
   oracle bench [--rounds N]
 KINDS: all, no-builders, no-update, or call bytes with commas between them";
 
@@ -73,6 +78,16 @@ fn run(words: &[&str]) -> Result<(), String> {
             })
         }
         "trace-sample" => traces::write_sample(Options::read(words, &["--calls"])?.kinds()?),
+        "sheets" => {
+            let options = Options::read(words, &["--seed", "--sheets", "--least", "--port"])?;
+            sheets::compare(&sheets::Options {
+                seed: options.number("--seed", 1)?,
+                sheets: options.number("--sheets", 1_100_000)?,
+                least: options.number("--least", 0)?,
+                port: Port(options.get("--port").map(String::from)),
+            })
+        }
+        "sheet-sample" => Options::read(words, &[]).and_then(|_| sheets::write_sample()),
         "bench" => bench::run(Options::read(words, &["--rounds"])?.number("--rounds", 9)?),
         _ => Err(USAGE.into()),
     }

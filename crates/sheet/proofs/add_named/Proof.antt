@@ -33,15 +33,15 @@ slice-aggregate-add-at-label-2 c =
     let l = c .before .before .before .before .before .before .before .before .args .target .label in
     omega (arith, c .before .before .before .text-len2 .ensures .0, length-take (l .len) (l .bytes), length-take (c .before .before .before .text-len2 .result) (l .bytes))
 
-float-of-requires : tie.Need-float-of-requires
-float-of-requires c κs = search needs
+from-bits-requires : tie.Need-from-bits-requires
+from-bits-requires c κs = search needs
 
 add-at-label-requires : tie.Need-add-at-label-requires
 add-at-label-requires c κs = search needs
 
 returns : tie.Need-returns
 returns c =
-    named _ _ _ _ _ _ _ _ (c .before .add-at-label .ensures) (text-part (c .before .before .before .before .before .before .before .before .before .before .before .args .item .label) _ (c .before .before .before .before .before .before .before .before .before .text-len .ensures .0)) (text-part (c .before .before .before .before .before .before .before .before .before .before .before .args .target .label) _ (c .before .before .before .before .before .before .text-len2 .ensures .0)) (c .before .before .float-of .ensures)
+    named _ _ _ _ _ _ _ _ (c .before .add-at-label .ensures) (text-part (c .before .before .before .before .before .before .before .before .before .before .before .args .item .label) _ (c .before .before .before .before .before .before .before .before .before .text-len .ensures .0)) (text-part (c .before .before .before .before .before .before .before .before .before .before .before .args .target .label) _ (c .before .before .before .before .before .before .text-len2 .ensures .0)) (c .before .before .from-bits .ensures)
 
 pub add-named-spec : {M : Type 1} → statement M
 add-named-spec =
@@ -53,6 +53,6 @@ add-named-spec =
     slice-aggregate-add-at-label
     array-share-prefix-name-bytes
     slice-aggregate-add-at-label-2
-    float-of-requires
+    from-bits-requires
     add-at-label-requires
     returns)

@@ -23,15 +23,15 @@ slice-aggregate-add c =
     let l = c .before .before .before .before .before .args .item .label in
     omega (arith, c .before .before .before .text-len .ensures .0, length-take (l .len) (l .bytes), length-take (c .before .before .before .text-len .result) (l .bytes))
 
-float-of-requires : tie.Need-float-of-requires
-float-of-requires c κs = search needs
+from-bits-requires : tie.Need-from-bits-requires
+from-bits-requires c κs = search needs
 
 add-requires : tie.Need-add-requires
 add-requires c κs = search needs
 
 returns : tie.Need-returns
 returns c =
-    placed _ _ _ _ _ _ _ _ (c .before .add .ensures) (text-part (c .before .before .before .before .before .before .before .before .args .item .label) _ (c .before .before .before .before .before .before .text-len .ensures .0)) (c .before .before .before .before .at-of .ensures) (c .before .before .float-of .ensures)
+    placed _ _ _ _ _ _ _ _ (c .before .add .ensures) (text-part (c .before .before .before .before .before .before .before .before .args .item .label) _ (c .before .before .before .before .before .before .text-len .ensures .0)) (c .before .before .before .before .at-of .ensures) (c .before .before .from-bits .ensures)
 
 pub add-placed-spec : {M : Type 1} → statement M
 add-placed-spec =
@@ -41,6 +41,6 @@ add-placed-spec =
     at-of-requires
     array-share-prefix-bytes
     slice-aggregate-add
-    float-of-requires
+    from-bits-requires
     add-requires
     returns)

@@ -6,8 +6,8 @@ use Rattle.sheet.proofs.at_of.Tie as tie
 enum-known-at : tie.Need-enum-known-at
 enum-known-at c = search needs
 
-float-of-requires : tie.Need-float-of-requires
-float-of-requires c κs = search needs
+from-bits-requires : tie.Need-from-bits-requires
+from-bits-requires c κs = search needs
 
 enum-told : tie.Need-enum-told
 enum-told c = search needs
@@ -21,8 +21,8 @@ enum-told-3 c = search needs
 enum-known-at-2 : tie.Need-enum-known-at-2
 enum-known-at-2 c = search needs
 
-float-of-requires-2 : tie.Need-float-of-requires-2
-float-of-requires-2 c κs = search needs
+from-bits-requires-2 : tie.Need-from-bits-requires-2
+from-bits-requires-2 c κs = search needs
 
 returns : tie.Need-returns
 returns c = cc
@@ -44,12 +44,12 @@ at-of-spec =
     tie.close
     (tie.spec
     enum-known-at
-    float-of-requires
+    from-bits-requires
     enum-told
     enum-told-2
     enum-told-3
     enum-known-at-2
-    float-of-requires-2
+    from-bits-requires-2
     returns
     returns-2
     returns-3

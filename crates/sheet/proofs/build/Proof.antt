@@ -26,8 +26,8 @@ sized c = search (unmapped, needs)
 at-most-requires : tie.Need-at-most-requires Inv-loop μ-loop
 at-most-requires c κs = search needs
 
-float-of-requires : tie.Need-float-of-requires Inv-loop μ-loop
-float-of-requires c κs = search needs
+from-bits-requires : tie.Need-from-bits-requires Inv-loop μ-loop
+from-bits-requires c κs = search needs
 
 new-requires : tie.Need-new-requires Inv-loop μ-loop
 new-requires c κs = search needs
@@ -73,7 +73,7 @@ returns c =
     let h = sized (c .before .before .before .before .before .before) in
     let m = c .before .before .before .before .before .before .before .at-most .ensures in
     let live = take-cut (d .count) n (d .items) (omega arith) in
-    sym (calls-end n (at .loop .i) (d .items) (at .loop .timeline) (omega arith)) ∙ at .loop .inv .3 ∙ rw (live, c .before .before .set-time-scale .ensures, c .before .before .before .looping .ensures, c .before .before .before .before .new .ensures, c .before .before .before .before .before .float-of .ensures)
+    sym (calls-end n (at .loop .i) (d .items) (at .loop .timeline) (omega arith)) ∙ at .loop .inv .3 ∙ rw (live, c .before .before .set-time-scale .ensures, c .before .before .before .looping .ensures, c .before .before .before .before .new .ensures, c .before .before .before .before .before .from-bits .ensures)
 
 pub build-spec : {M : Type 1} → statement M
 build-spec =
@@ -82,7 +82,7 @@ build-spec =
     Inv-loop
     μ-loop
     at-most-requires
-    float-of-requires
+    from-bits-requires
     new-requires
     looping-requires
     set-time-scale-requires
