@@ -1,8 +1,8 @@
 -- The claim.
 use Prim.Native.Nat.{ℕ, _+_, _<_}
-use mathlib.Core.Path.{_≡_, refl, sym, ap, _∙_}
+use mathlib.Core.Path.{_≡_, refl}
 use mathlib.Core.Bool.{Bool, true, false}
-use mathlib.Core.List.{List, [], _++_}
+use mathlib.Core.List.{List, _++_}
 use native.Mathlib.Omega.{arith}
 use borrow.Author.Tests.{eqb-true, eqb-false}
 use lib.Dec.{eqb}
@@ -15,6 +15,7 @@ use Rattle.call_log.specs.Machine.{openLine, openLog, runFrom, frontSize
 use Rattle.call_log.specs.Claim.{Prints, Claim}
 use Rattle.call_log.proofs.Fronts.{front-only}
 use Rattle.call_log.proofs.Opening.{uncut, number-cut, open-refused, open-accepted, front-size, opens-front}
+use Rattle.call_log.proofs.Worked.{nan-shown, worked}
 use Rattle.call_log.proofs.Runs.{closed-runs, open-runs}
 
 -- an accepted sheet is not cut
@@ -46,4 +47,4 @@ prints input h =
     rw (o .0, o .1) (prints-as (eqb (sheetNumber input) 0) input refl h)
 
 pub claim : Claim
-claim = record { prints = prints; front-only = front-only }
+claim = record { prints = prints; front-only = front-only; nan-shown = nan-shown; worked = worked }

@@ -1,16 +1,15 @@
 -- What depends on the front of the input, or of the script, alone.
-use Prim.Native.Nat.{ℕ, zero, suc, _+_, _≤_, _<_}
-use mathlib.Core.Path.{_≡_, refl, sym, ap, _∙_}
-use mathlib.Core.Bool.{Bool, true, false, cond, not, _||_}
+use Prim.Native.Nat.{ℕ, zero, suc, _≤_}
+use mathlib.Core.Path.{_≡_, refl}
+use mathlib.Core.Bool.{Bool, true, false}
 use mathlib.Core.List.{List, [], _∷_}
 use native.Mathlib.Nat.{not-suc-le-zero, le-of-suc-le-suc}
 use native.Mathlib.Omega.{arith}
 use borrow.Author.Tests.{lt-ltb, le-ltb, ltb-true, ltb-false, ne-eqb}
-use lib.Dec.{eqb, ltb, lit<}
-use lib.ListN.{length, take, drop, getD, length-take}
-use lib.Seq.{take-all, take-take, take-add, take-at, drop-at, getD-take}
+use lib.Dec.{ltb}
+use lib.ListN.{length, take, length-take}
 use Rattle.timeline.specs.declared.timeline.Timeline.{Timeline}
-use Rattle.sheet_format.specs.Words.{byteAt, word}
+use Rattle.sheet_format.specs.Words.{word}
 use Rattle.call_log.specs.declared.Log.{Log}
 use Rattle.call_log.specs.Logs.{callSize, outcomeAt}
 use Rattle.call_log.specs.Machine.{isOver, nextLines, nextLog}

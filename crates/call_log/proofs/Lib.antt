@@ -4,4 +4,5 @@ pub mod Making
 pub mod Fronts
 pub mod Opening
 pub mod Runs
+pub mod Worked
 pub mod Claim

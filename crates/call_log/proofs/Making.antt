@@ -4,7 +4,7 @@ use mathlib.Core.Path.{_≡_, refl, sym, ap, _∙_}
 use mathlib.Core.Bool.{Bool, true, false, cond}
 use mathlib.Core.List.{List, [], append-nil}
 use native.Mathlib.Omega.{arith}
-use borrow.Author.Tests.{eq-eqb, ne-eqb, ltb-false}
+use borrow.Author.Tests.{ne-eqb, ltb-false}
 use lib.Dec.{eqb, ltb}
 use lib.Ieee.{Float}
 use lib.ListN.{length, take, drop, length-append, length-drop}
@@ -19,7 +19,7 @@ use Rattle.track.specs.Calls.{Room, roomOf, TrackCall, SetTimeScale, Play, Paus
 use Rattle.timeline.specs.declared.timeline.Timeline.{Timeline}
 use Rattle.timeline.specs.declared.timeline.Moved.{Moved}
 use Rattle.timeline.specs.declared.timeline.Updated.{Updated}
-use Rattle.timeline.specs.Calls.{On, Out, silent, step, movedBy, updatedBy}
+use Rattle.timeline.specs.Calls.{Out, silent, step, movedBy, updatedBy}
 use Rattle.call_log.specs.declared.calls.Outcome.{Outcome}
 use Rattle.call_log.specs.declared.Log.{Log}
 use Rattle.call_log.specs.Lines.{Called, letterOf, shown, shownAll}

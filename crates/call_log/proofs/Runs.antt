@@ -1,20 +1,20 @@
 -- Call by call, from the front of the script to its end.
 use Prim.Native.Nat.{ℕ, zero, suc, _+_, _*_, _/_, _≤_, _<_}
-use mathlib.Core.Path.{_≡_, refl, sym, ap, _∙_}
-use mathlib.Core.Bool.{Bool, true, false, cond}
+use mathlib.Core.Path.{_≡_, refl, ap, _∙_}
+use mathlib.Core.Bool.{true, false}
 use mathlib.Core.List.{List, [], _∷_, _++_, map, append-nil}
-use native.Mathlib.Nat.{not-suc-le-zero, le-of-suc-le-suc}
+use native.Mathlib.Nat.{not-suc-le-zero}
 use native.Mathlib.Numerals.{add-one}
 use native.Mathlib.Omega.{arith}
 use borrow.Author.Tests.{lt-ltb, ne-eqb}
-use lib.Dec.{eqb, ltb}
+use lib.Dec.{eqb}
 use lib.ListN.{length, drop, length-drop}
 use lib.Seq.{drop-drop}
 use Rattle.timeline.specs.declared.timeline.Timeline.{Timeline}
 use Rattle.timeline.specs.Calls.{Out}
 use Rattle.call_log.specs.declared.Log.{Log}
 use Rattle.call_log.specs.Lines.{shown, shownAll}
-use Rattle.call_log.specs.Logs.{callSize, outcomeAt, callLine, fromCall, afterCalls, lineAt, lineCount, numbersFrom}
+use Rattle.call_log.specs.Logs.{callSize, outcomeAt, fromCall, afterCalls, lineAt, lineCount, numbersFrom}
 use Rattle.call_log.specs.Machine.{closedLog, lastNumber, counted, nextLines, nextLog, runFrom}
 
 -- a log whose sheet was refused has no more lines

@@ -1,5 +1,5 @@
 -- Texts put into a line, one after the other.
-use Prim.Native.Nat.{ℕ, suc, _+_, _*_, _≤_, _<_}
+use Prim.Native.Nat.{ℕ, _+_, _≤_, _<_}
 use mathlib.Core.Path.{_≡_, refl, sym, ap, _∙_}
 use mathlib.Core.List.{List, [], _∷_, _++_, append-assoc, append-nil, foldl-append, map, map-append}
 use native.Mathlib.Nat.{add-zero}
@@ -10,7 +10,7 @@ use lib.Ieee.{Float}
 use lib.ListN.{length, take, getD, set, length-append}
 use lib.Seq.{take-suc, set-split}
 use Rattle.float32.specs.Helpers.{toBits}
-use Rattle.digits.specs.Digits.{over, decimal, hexText, Put}
+use Rattle.digits.specs.Digits.{decimal, hexText, Put}
 use Rattle.digits.proofs.Length.{length-digits}
 use Rattle.digits.proofs.Over.{over-nil}
 use Rattle.digits.proofs.Room.{written-whole}

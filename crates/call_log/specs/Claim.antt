@@ -3,7 +3,10 @@ use Prim.Native.Nat.{ℕ, _≤_, _<_}
 use mathlib.Core.Path.{_≡_}
 use mathlib.Core.List.{List, [], _∷_}
 use lib.ListN.{length, take}
+use lib.Ieee.{nan}
+use Rattle.float32.specs.Helpers.{toBits}
 use Rattle.call_log.specs.declared.Log.{Log}
+use Rattle.call_log.specs.Lines.{Called, shown}
 use Rattle.call_log.specs.Logs.{callSize, logBytes}
 use Rattle.call_log.specs.Machine.{lastNumber, nextLines, nextLog, printed}
 
@@ -18,7 +21,40 @@ FrontOnly =
     (log : Log) (rest : List ℕ) (k : ℕ) → callSize ≤ k
     → (nextLines log (take k rest) ≡ nextLines log rest) × (nextLog log (take k rest) ≡ nextLog log rest)
 
+-- The worked example: "Once, scale 1.0, `a` of 1.0 at Start, `b` of 0.5 at End; play, update 1.0, update 1.0". A line each for the length,
+-- the header, the loop number, the scale, two pairs, two records, the labels and three calls.
+unfoldable pub exampleInput : List ℕ
+exampleInput =
+    46 ∷ 0
+    ∷ 1 ∷ 2 ∷ 0 ∷ 0
+    ∷ 0 ∷ 0 ∷ 0 ∷ 0
+    ∷ 0 ∷ 0 ∷ 128 ∷ 63
+    ∷ 44 ∷ 0 ∷ 1 ∷ 0
+    ∷ 45 ∷ 0 ∷ 1 ∷ 0
+    ∷ 1 ∷ 0 ∷ 0 ∷ 0 ∷ 0 ∷ 0 ∷ 0 ∷ 0 ∷ 0 ∷ 0 ∷ 128 ∷ 63
+    ∷ 2 ∷ 0 ∷ 0 ∷ 0 ∷ 0 ∷ 0 ∷ 0 ∷ 0 ∷ 0 ∷ 0 ∷ 0 ∷ 63
+    ∷ 97 ∷ 98
+    ∷ 0 ∷ 0 ∷ 0 ∷ 0 ∷ 0
+    ∷ 4 ∷ 0 ∷ 0 ∷ 128 ∷ 63
+    ∷ 4 ∷ 0 ∷ 0 ∷ 128 ∷ 63
+    ∷ []
+
+-- its log: `sheet 0 2 3fc00000 3fc00000`, `1 P 00000000 0`, `2 P 3f800000 0 0`, `3 C 3fc00000 0 1`
+unfoldable pub exampleLog : List ℕ
+exampleLog =
+    115 ∷ 104 ∷ 101 ∷ 101 ∷ 116 ∷ 32 ∷ 48 ∷ 32 ∷ 50 ∷ 32 ∷ 51 ∷ 102 ∷ 99 ∷ 48 ∷ 48 ∷ 48 ∷ 48 ∷ 48 ∷ 32 ∷ 51 ∷ 102 ∷ 99 ∷ 48 ∷ 48 ∷ 48 ∷ 48 ∷ 48 ∷ 10
+    ∷ 49 ∷ 32 ∷ 80 ∷ 32 ∷ 48 ∷ 48 ∷ 48 ∷ 48 ∷ 48 ∷ 48 ∷ 48 ∷ 48 ∷ 32 ∷ 48 ∷ 10
+    ∷ 50 ∷ 32 ∷ 80 ∷ 32 ∷ 51 ∷ 102 ∷ 56 ∷ 48 ∷ 48 ∷ 48 ∷ 48 ∷ 48 ∷ 32 ∷ 48 ∷ 32 ∷ 48 ∷ 10
+    ∷ 51 ∷ 32 ∷ 67 ∷ 32 ∷ 51 ∷ 102 ∷ 99 ∷ 48 ∷ 48 ∷ 48 ∷ 48 ∷ 48 ∷ 32 ∷ 48 ∷ 32 ∷ 49 ∷ 10
+    ∷ []
+
+-- "NaN as 7fc00000": `1 P 7fc00000 0`
+abbrev pub NanShown : Type 0
+NanShown = shown (Called 1 80 (toBits nan) 0 []) ≡ 49 ∷ 32 ∷ 80 ∷ 32 ∷ 55 ∷ 102 ∷ 99 ∷ 48 ∷ 48 ∷ 48 ∷ 48 ∷ 48 ∷ 32 ∷ 48 ∷ 10 ∷ []
+
 -- all of it, which `claimed` carries
 pub record Claim : Type 0 where
   pub prints : Prints
   pub front-only : FrontOnly
+  pub nan-shown : NanShown
+  pub worked : logBytes exampleInput ≡ exampleLog

@@ -13,7 +13,6 @@ use Rattle.track.specs.Calls.{Room, TrackCall, SetTimeScale, Play, Pause, Resum
 use Rattle.timeline.specs.declared.timeline.Timeline.{Timeline}
 use Rattle.timeline.specs.Calls.{On, Out, silent, step}
 use Rattle.sheet_format.specs.Words.{byteAt, word}
-use Rattle.sheet.specs.declared.Reading.{Reading}
 use Rattle.sheet.specs.Build.{readingOf}
 use Rattle.call_log.specs.Lines.{Line, Refused, Accepted, Called, letterOf, shownAll}
 

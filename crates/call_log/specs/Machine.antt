@@ -1,5 +1,5 @@
 -- What the functions of this crate answer, and the log that comes of calling them in turn, as the program does. Definitions only.
-use Prim.Native.Nat.{ℕ, zero, suc, _+_, _^_}
+use Prim.Native.Nat.{ℕ, zero, suc, _+_}
 use mathlib.Core.Path.{_≡_}
 use mathlib.Core.Bool.{Bool, true, false, cond, not, _||_}
 use mathlib.Core.List.{List, [], _∷_, _++_}

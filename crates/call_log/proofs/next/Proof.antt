@@ -19,7 +19,7 @@ returns c =
 
 returns-2 : tie.Need-returns-2
 returns-2 c =
-    let o = next-over (c .before .before .before .before .args .log) (c .before .before .before .before .args .rest .now) (rw (c .before .if1 .left, eq-eqb _ _ (c .if2 .taken))) in
+    let o = next-over (c .before .before .before .before .args .log) (c .before .before .before .before .args .rest .now) (rw (c .before .if1 .left, eq-eqb (length (c .before .before .before .before .args .rest .now)) 0 (omega arith))) in
     (rw (o .0, o .1), rw (o .0) (sym (over-nil 0 (c .before .before .before .before .args .line .now))))
 
 empty-list-requires : tie.Need-empty-list-requires
