@@ -6,9 +6,10 @@ use Rattle.digits.specs.Digits.{codeOf, digits, decimalPlacesFrom, decimalPlace
 use Rattle.steps.specs.Times.{baseOf, timesRun, runOf, timesLocal, pingPong, localTime}
 use Rattle.steps.specs.Rows.{untouched, cleared, synced, tickRow, tickedOver, tickedIn, ticked, resetFirst}
 use Rattle.label.specs.Label.{sameText, firstFrom, firstLike}
-use Rattle.track.specs.Clocks as clocks
+use Rattle.clock.specs.Clocks as clocks
 use Rattle.track.specs.Tracks.{emptyTrack, progressIn, shareIn}
-use Rattle.track.specs.Updates.{nextElapsed, aboveOne, ticks, newlyDone, tickedTo, syncedTo, playing, advancedClock}
+use Rattle.track.specs.Updates.{aboveOne, ticks, newlyDone, tickedTo, syncedTo, playing}
+use Rattle.clock.specs.Clocks.{nextElapsed, advancedClock}
 use Rattle.track.specs.Calls.{sent, playRule, soughtTo, advancedTo, rested, updated, updatedWith, trackStep}
 use Rattle.timeline.specs.Placements.{empty, namedStart, resolveStart}
 use Rattle.timeline.specs.Calls.{addedAt, step, after}
