@@ -1,5 +1,5 @@
 // The fields of a line, put into a lent array one after the other. Each answers where the next one starts.
-
+ghost use mathlib.Core.Path.{_≡_};
 ghost use mathlib.Core.List.{[], _∷_};
 ghost use Prim.Native.Nat.{_+_, _<_, _≤_};
 ghost use lib.ListN.{length};
@@ -9,6 +9,13 @@ ghost use Rattle.call_log.specs.Lines.{sheetWord, bitsField, Wrote};
 
 // The longest line: a number of 20 digits, the state, the bits, a refusal of 3 digits, 256 listed bytes of 3 digits, and the LF.
 pub const LINE: usize = 1_060;
+
+// A byte as a number.
+pub fn wide(byte: u8) -> usize
+    ensures { λ r. ⌜ (r ≡ byte) × (r < 256) ⌝ }
+{
+    byte as usize
+}
 
 // One byte.
 pub fn put_byte(line: &mut [u8], at: usize, b: u8) -> usize
@@ -57,7 +64,7 @@ pub fn put_bits(line: &mut [u8], at: usize, x: f32) -> usize
 // The word `sheet`, at the beginning.
 pub fn put_sheet(line: &mut [u8]) -> usize
     requires { ⌜ 5 ≤ length (now line) ⌝ }
-    ensures { λ r. ⌜ Wrote (sheetWord) 0 (now (line .entry)) (now (line .exit)) r ⌝ }
+    ensures { λ r. ⌜ Wrote sheetWord 0 (now (line .entry)) (now (line .exit)) r ⌝ }
 {
     line[0] = b's';
     line[1] = b'h';

@@ -6,9 +6,9 @@ mod lines;
 use calls::LIST;
 use calls::Outcome;
 pub use fields::LINE;
+use fields::wide;
 use refusal::ACCEPTED;
 use refusal::SHEET_LENGTH;
-use sheet::Reading;
 use timeline::timeline::Timeline;
 ghost use mathlib.Core.Path.{_≡_};
 ghost use Prim.Native.Nat.{_+_, _<_, _≤_};
@@ -43,12 +43,6 @@ pub struct Opened {
 pub struct Logged {
     pub len: usize,
     pub log: Log,
-}
-
-fn wide(byte: u8) -> usize
-    ensures { λ r. ⌜ (r ≡ byte) × (r < 256) ⌝ }
-{
-    byte as usize
 }
 
 // The u16 at a place.

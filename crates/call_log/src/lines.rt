@@ -5,6 +5,7 @@ use crate::fields::put_decimal;
 use crate::fields::put_letter;
 use crate::fields::put_number;
 use crate::fields::put_sheet;
+use crate::fields::wide;
 use clock::TimelineState;
 use timeline::timeline::Timeline;
 ghost use mathlib.Core.Path.{_≡_};
@@ -62,12 +63,6 @@ fn put_list(line: &mut [u8], start: usize, list: &[u8], n: usize) -> usize
         i += 1;
     }
     at
-}
-
-fn wide(byte: u8) -> usize
-    ensures { λ r. ⌜ (r ≡ byte) × (r < 256) ⌝ }
-{
-    byte as usize
 }
 
 // The line of a call.

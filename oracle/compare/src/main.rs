@@ -7,6 +7,7 @@ mod cases;
 mod checked;
 mod damage;
 mod debug;
+mod door;
 mod floats;
 mod leaf;
 mod port;
@@ -34,6 +35,9 @@ const USAGE: &str = "usage:
   oracle trace-sample [--calls KINDS]
   oracle sheets [--seed N] [--sheets N] [--least N] [--port COMMAND]
   oracle sheet-sample
+  oracle doors [--seed N] [--inputs N] [--least N] [--port COMMAND]
+  oracle door-log
+  oracle door-bench [--calls N] [--rounds N]
   oracle bench
 KINDS: all, no-builders, no-update, or call bytes with commas between them";
 
@@ -88,6 +92,21 @@ fn run(words: &[&str]) -> Result<(), String> {
             })
         }
         "sheet-sample" => Options::read(words, &[]).and_then(|_| sheets::write_sample()),
+        "doors" => {
+            let options = Options::read(words, &["--seed", "--inputs", "--least", "--port"])?;
+            door::compare(&door::Options {
+                seed: options.number("--seed", 1)?,
+                inputs: options.number("--inputs", 100_000)?,
+                least: options.number("--least", 0)?,
+                port: options.get("--port").map(String::from),
+            })
+        }
+        "door-log" => Options::read(words, &[]).and_then(|_| door::write_log()),
+        "door-bench" => {
+            let options = Options::read(words, &["--calls", "--rounds"])?;
+            let calls = options.number("--calls", 1_000_000)?;
+            door::bench(calls as u32, options.number("--rounds", 5)?)
+        }
         "bench" => Options::read(words, &[]).and_then(|_| bench::run()),
         _ => Err(USAGE.into()),
     }
