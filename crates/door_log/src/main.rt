@@ -98,8 +98,8 @@ fn turn(door: Door, chunk: &mut [u8], line: &mut [u8; LINE], out: &mut [u8]) -> 
     let got = read_on(chunk, left);
     let n = left + got;
     if got == 0 {
-        let last = next(door, &chunk[..n], line, out);
-        return flushed(last, out, 0, false);
+        let ended = last(door, &chunk[..n], line, out);
+        return flushed(ended, out, 0, false);
     }
     let called = calls(door, &chunk[..n], line, out);
     let rest = n % CALL;
@@ -117,17 +117,25 @@ fn read_on(chunk: &mut [u8], left: usize) -> usize
     least(count, chunk.len() - left)
 }
 
-// Makes the calls that are whole.
+// Makes the calls that are whole. The log is a local of its own, so that it is not copied more often than a call needs.
 fn calls(door: Door, bytes: &[u8], line: &mut [u8; LINE], out: &mut [u8]) -> Door
     requires { ⌜ 1060 ≤ length (now out) ⌝ }
 {
-    let mut d = door;
+    let mut log = door.log;
+    let mut kept = door.kept;
     let mut i = 0usize;
     while CALL <= bytes.len() - i {
-        d = next(d, &bytes[i..], line, out);
+        let logged = call_log::next(log, &bytes[i..], line);
+        kept = keep(line, logged.len, out, kept);
+        log = logged.log;
         i += CALL;
     }
-    d
+    Door {
+        left: 0,
+        kept,
+        more: true,
+        log,
+    }
 }
 
 // Moves `count` bytes from `from` on to the front.
@@ -142,20 +150,18 @@ fn shift(chunk: &mut [u8], from: usize, count: usize)
     }
 }
 
-// Makes the call at the front, and keeps its line.
-fn next(door: Door, rest: &[u8], line: &mut [u8; LINE], out: &mut [u8]) -> Door
+// What is left at the end has a line, if it is anything.
+fn last(door: Door, rest: &[u8], line: &mut [u8; LINE], out: &mut [u8]) -> Door
     requires { ⌜ 1060 ≤ length (now out) ⌝ }
 {
     let log = door.log;
     let logged = call_log::next(log, rest, line);
-    let kept = room(out, door.kept);
-    let len = least(logged.len, LINE);
-    keep(line, len, out, kept);
+    let kept = keep(line, logged.len, out, door.kept);
     let log = logged.log;
     Door {
         left: 0,
-        kept: kept + len,
-        more: true,
+        kept,
+        more: false,
         log,
     }
 }
@@ -178,13 +184,23 @@ fn write(out: &[u8], kept: usize) -> bool {
     io::write_all(STDOUT_FILENO, &out[..n])
 }
 
-// Copies a line behind what is kept.
-fn keep(line: &[u8; LINE], len: usize, out: &mut [u8], kept: usize)
-    requires { ⌜ (len ≤ 1060) × (kept + len ≤ length (now out)) ⌝ }
+// Keeps a line, and says how much is kept then.
+fn keep(line: &[u8; LINE], len: usize, out: &mut [u8], kept: usize) -> usize
+    requires { ⌜ 1060 ≤ length (now out) ⌝ }
+{
+    let at = room(out, kept);
+    let n = least(len, LINE);
+    copy(line, n, out, at);
+    at + n
+}
+
+// Copies a line to a place.
+fn copy(line: &[u8; LINE], len: usize, out: &mut [u8], at: usize)
+    requires { ⌜ (len ≤ 1060) × (at + len ≤ length (now out)) ⌝ }
 {
     let mut i = 0usize;
     while i < len {
-        let place = kept + i;
+        let place = at + i;
         out[place] = line[i];
         i += 1;
     }

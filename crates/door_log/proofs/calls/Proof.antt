@@ -2,15 +2,16 @@
 use Prim.Native.Nat.{_-_, _≤_}
 use mathlib.Core.Path.{_≡_, refl}
 use native.Mathlib.Omega.{arith}
+use borrow.Author.Needs.{needs}
 use lib.ListN.{length}
 use Rattle.door_log.proofs.calls.Statement.{statement}
 use Rattle.door_log.proofs.calls.Tie as tie
 
 abbrev Inv-loop : tie.InvT-loop
-Inv-loop bytes line₀ out₀ d₀ i₀ line out d i = (i ≤ length bytes) × (length out ≡ length out₀)
+Inv-loop bytes line₀ out₀ log₀ kept₀ i₀ line out log kept i = (i ≤ length bytes) × (length out ≡ length out₀)
 
 abbrev μ-loop : tie.MeasureT-loop
-μ-loop bytes line₀ out₀ d₀ i₀ line out d i = length bytes - i
+μ-loop bytes line₀ out₀ log₀ kept₀ i₀ line out log kept i = length bytes - i
 
 loop-holds : tie.Need-loop-holds Inv-loop μ-loop
 loop-holds c = (omega arith, refl)
@@ -28,7 +29,10 @@ part-next-end : tie.Need-part-next-end Inv-loop μ-loop
 part-next-end c = omega arith
 
 next-requires : tie.Need-next-requires Inv-loop μ-loop
-next-requires c κs = omega arith
+next-requires c κs = search needs
+
+keep-requires : tie.Need-keep-requires Inv-loop μ-loop
+keep-requires c κs = search needs
 
 add-i : tie.Need-add-i Inv-loop μ-loop
 add-i c = omega arith
@@ -57,6 +61,7 @@ calls-spec =
     part-next-start
     part-next-end
     next-requires
+    keep-requires
     add-i
     loop-less
     loop-again

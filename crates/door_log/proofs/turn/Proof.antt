@@ -13,14 +13,14 @@ read-on-requires c κs = search needs
 add-n : tie.Need-add-n
 add-n c = search needs
 
-slice-reshare-prefix-next : tie.Need-slice-reshare-prefix-next
-slice-reshare-prefix-next c = search needs
+slice-reshare-prefix-last : tie.Need-slice-reshare-prefix-last
+slice-reshare-prefix-last c = search needs
 
-slice-aggregate-next : tie.Need-slice-aggregate-next
-slice-aggregate-next c = front _ _ (c .before .before .before .before .read-on .ensures)
+slice-aggregate-last : tie.Need-slice-aggregate-last
+slice-aggregate-last c = front _ _ (c .before .before .before .before .read-on .ensures)
 
-next-requires : tie.Need-next-requires
-next-requires c κs = search needs
+last-requires : tie.Need-last-requires
+last-requires c κs = search needs
 
 flushed-requires : tie.Need-flushed-requires
 flushed-requires c κs = search needs
@@ -68,9 +68,9 @@ turn-spec =
     least-requires
     read-on-requires
     add-n
-    slice-reshare-prefix-next
-    slice-aggregate-next
-    next-requires
+    slice-reshare-prefix-last
+    slice-aggregate-last
+    last-requires
     flushed-requires
     same-length
     same-length-2

@@ -1,16 +1,16 @@
--- `door_log::keep` is safe and ends. The measure is the bytes that are left.
+-- `door_log::copy` is safe and ends. The measure is the bytes that are left.
 use Prim.Native.Nat.{_+_, _-_, _≤_}
 use mathlib.Core.Path.{_≡_, refl}
 use native.Mathlib.Omega.{arith}
 use lib.ListN.{length, length-set}
-use Rattle.door_log.proofs.keep.Statement.{statement}
-use Rattle.door_log.proofs.keep.Tie as tie
+use Rattle.door_log.proofs.copy.Statement.{statement}
+use Rattle.door_log.proofs.copy.Tie as tie
 
 abbrev Inv-loop : tie.InvT-loop
-Inv-loop line len out₀ kept i₀ out i = (i ≤ len) × (len ≤ 1060) × (length out ≡ length out₀) × (kept + len ≤ length out₀)
+Inv-loop line len out₀ at i₀ out i = (i ≤ len) × (len ≤ 1060) × (length out ≡ length out₀) × (at + len ≤ length out₀)
 
 abbrev μ-loop : tie.MeasureT-loop
-μ-loop line len out₀ kept i₀ out i = len - i
+μ-loop line len out₀ at i₀ out i = len - i
 
 loop-holds : tie.Need-loop-holds Inv-loop μ-loop
 loop-holds c = (omega arith, omega arith, refl, omega arith)
@@ -39,8 +39,8 @@ same-length c = c .before .loop .inv .2
 returns : tie.Need-returns Inv-loop μ-loop
 returns c = tt
 
-pub keep-spec : {M : Type 1} → statement M
-keep-spec =
+pub copy-spec : {M : Type 1} → statement M
+copy-spec =
     tie.close
     (tie.spec
     Inv-loop
