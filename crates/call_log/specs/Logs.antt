@@ -67,6 +67,7 @@ replies = replicate maxEntries 1
 abbrev pub room : Room
 room = record { kinds = maxEntries; amounts = maxEntries; places = maxEntries }
 
+-- What a call does to what plays: `trackStep`, by which crate timeline defines the same calls.
 -- "0 play, 1 pause, 2 resume, 3 reset, 4 update, 5 seek, 6 seek_abs, 7 scale"; a call that is none leaves the track
 unfoldable pub outcome : Track → ℕ → Float → TrackOut
 outcome k byte x =
