@@ -8,9 +8,8 @@ use borrow.Author.Tests.{eqb-true, eqb-false}
 use lib.Dec.{eqb}
 use lib.ListN.{length, drop, length-drop}
 use Rattle.sheet_format.specs.Words.{word}
-use Rattle.sheet.specs.Build.{readingOf}
 use Rattle.call_log.specs.Lines.{shown, shownAll}
-use Rattle.call_log.specs.Logs.{isCut, sheetIn, scriptIn, sheetNumber, afterCalls, logOf, logBytes}
+use Rattle.call_log.specs.Logs.{isCut, scriptIn, trackIn, sheetNumber, afterCalls, logOf, logBytes}
 use Rattle.call_log.specs.Machine.{openLine, openLog, runFrom, frontSize, printed}
 use Rattle.call_log.specs.Claim.{Prints, Claim}
 use Rattle.call_log.proofs.Fronts.{front-only}
@@ -37,7 +36,7 @@ prints-as true input e h =
     let n = eqb-true _ _ e in
     let o = open-accepted input n in
     let l = length-drop (2 + word 2 input) input in
-    let t = readingOf (sheetIn input) .timeline in
+    let t = trackIn input in
     rw (o .0, o .1, front-size input (uncut input (whole input n)), open-runs t (scriptIn input) (length input) 0 (scriptIn input) t refl refl (omega arith) (omega arith), e)
 
 prints : Prints

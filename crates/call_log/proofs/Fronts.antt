@@ -8,7 +8,7 @@ use native.Mathlib.Omega.{arith}
 use borrow.Author.Tests.{lt-ltb, le-ltb, ltb-true, ltb-false, ne-eqb}
 use lib.Dec.{ltb}
 use lib.ListN.{length, take, length-take}
-use Rattle.timeline.specs.declared.timeline.Timeline.{Timeline}
+use Rattle.track.specs.declared.track.Track.{Track}
 use Rattle.sheet_format.specs.Words.{word}
 use Rattle.call_log.specs.declared.Log.{Log}
 use Rattle.call_log.specs.Logs.{callSize, outcomeAt}
@@ -32,7 +32,7 @@ ltb-front w k s h = go (ltb (length s) w) refl
     go false e = le-ltb (length (take k s)) w (omega (arith, ltb-false (length s) w e, length-take k s))
 
 -- the call at the front of the script is in its first bytes
-outcome-front : (t : Timeline) (rest : List ℕ) (k : ℕ) → callSize ≤ k → outcomeAt t (take k rest) ≡ outcomeAt t rest
+outcome-front : (t : Track) (rest : List ℕ) (k : ℕ) → callSize ≤ k → outcomeAt t (take k rest) ≡ outcomeAt t rest
 unfolding outcomeAt
 outcome-front t rest zero h = absurd (not-suc-le-zero h)
 outcome-front t [] (suc k) h = refl
@@ -45,4 +45,4 @@ over-front log (b ∷ s) (suc k) h = rw (ne-eqb (length (b ∷ take k s)) 0 (λ 
 
 pub front-only : FrontOnly
 unfolding nextLines nextLog
-front-only log rest k h = rw (over-front log rest k h, outcome-front (log .timeline) rest k h) (refl, refl)
+front-only log rest k h = rw (over-front log rest k h, outcome-front (log .track) rest k h) (refl, refl)

@@ -12,7 +12,7 @@ use lib.Seq.{take-take, take-add, drop-at, length-take-le}
 use Rattle.sheet_format.specs.Words.{word}
 use Rattle.sheet.specs.Build.{readingOf}
 use Rattle.call_log.specs.Lines.{Refused}
-use Rattle.call_log.specs.Logs.{isCut, sheetIn, sheetNumber, sheetLine}
+use Rattle.call_log.specs.Logs.{isCut, sheetIn, sheetNumber, sheetLine, trackIn}
 use Rattle.call_log.specs.Machine.{sheetRoom, closedLog, newLog, openLine, openLog, frontSize}
 use Rattle.call_log.proofs.Fronts.{word-take, ltb-front}
 
@@ -65,7 +65,7 @@ module _ (input : List ℕ) where
   unfolding openLine openLog
   open-refused h = rw (ne-eqb (sheetNumber input) 0 h) (refl, refl)
 
-  pub open-accepted : sheetNumber input ≡ 0 → (openLine input ≡ sheetLine (readingOf (sheetIn input) .timeline)) × (openLog input ≡ newLog (readingOf (sheetIn input) .timeline))
+  pub open-accepted : sheetNumber input ≡ 0 → (openLine input ≡ sheetLine (trackIn input)) × (openLog input ≡ newLog (trackIn input))
   unfolding openLine openLog
   open-accepted h = rw (eq-eqb (sheetNumber input) 0 h) (refl, refl)
 
@@ -117,7 +117,9 @@ module _ (input : List ℕ) where
   opens other e f = go (eqb (sheetNumber input) 0) refl
     where
       go : (b : Bool) → eqb (sheetNumber input) 0 ≡ b → (openLine other ≡ openLine input) × (openLog other ≡ openLog input)
-      go true g = let s = f (eqb-true _ _ g) in rw (e, g, s) (refl, refl)
+      go true g =
+          let k : trackIn other ≡ trackIn input = ap (λ (s : List ℕ). readingOf s .timeline .track) (f (eqb-true _ _ g)) in
+          rw (e, g) (ap sheetLine k, ap newLog k)
       go false g = rw (e, g) (refl, refl)
 
   pub opens-front : (openLine (take (frontSize input) input) ≡ openLine input) × (openLog (take (frontSize input) input) ≡ openLog input)

@@ -10,8 +10,8 @@ use borrow.Author.Tests.{lt-ltb, ne-eqb}
 use lib.Dec.{eqb}
 use lib.ListN.{length, drop, length-drop}
 use lib.Seq.{drop-drop}
-use Rattle.timeline.specs.declared.timeline.Timeline.{Timeline}
-use Rattle.timeline.specs.Calls.{Out}
+use Rattle.track.specs.declared.track.Track.{Track}
+use Rattle.track.specs.Calls.{TrackOut}
 use Rattle.call_log.specs.declared.Log.{Log}
 use Rattle.call_log.specs.Lines.{shown, shownAll}
 use Rattle.call_log.specs.Logs.{callSize, outcomeAt, fromCall, afterCalls, lineAt, lineCount, numbersFrom}
@@ -37,16 +37,16 @@ one-last : (n : ℕ) → 1 ≤ n → n ≤ 5 → (n + 4) / 5 ≡ 1
 one-last n h e = omega arith
 
 -- a log that goes on
-abbrev going : ℕ → Timeline → Log
-going i t = record { number = i; logging = true; timeline = t }
+abbrev going : ℕ → Track → Log
+going i t = record { number = i; logging = true; track = t }
 
-module _ (t : Timeline) (script : List ℕ) where
-  next-timeline : (i : ℕ) (now : Timeline) (rest : List ℕ) → outcomeAt now rest ≡ outcomeAt (afterCalls t script i) (fromCall script i) → outcomeAt now rest .timeline ≡ afterCalls t script (suc i)
+module _ (t : Track) (script : List ℕ) where
+  next-track : (i : ℕ) (now : Track) (rest : List ℕ) → outcomeAt now rest ≡ outcomeAt (afterCalls t script i) (fromCall script i) → outcomeAt now rest .track ≡ afterCalls t script (suc i)
   unfolding afterCalls
-  next-timeline i now rest e = ap (λ (o : Out). o .timeline) e
+  next-track i now rest e = ap (λ (o : TrackOut). o .track) e
 
   -- from call i on, the lines are those from number i on
-  pub open-runs : (k i : ℕ) (rest : List ℕ) (now : Timeline) → rest ≡ fromCall script i → now ≡ afterCalls t script i → length rest ≤ k → i + length rest < lastNumber
+  pub open-runs : (k i : ℕ) (rest : List ℕ) (now : Track) → rest ≡ fromCall script i → now ≡ afterCalls t script i → length rest ≤ k → i + length rest < lastNumber
       → runFrom k (going i now) rest ≡ shownAll (map (lineAt t script) (numbersFrom i (lineCount rest)))
   unfolding runFrom nextLines nextLog shownAll numbersFrom
   open-runs zero i [] now r n h m = refl
@@ -60,5 +60,5 @@ module _ (t : Timeline) (script : List ℕ) where
       let size = length-drop callSize (b ∷ rest) in
       let step : outcomeAt now (b ∷ rest) ≡ outcomeAt (afterCalls t script i) (fromCall script i) = rw (r, n) in
       let more : lineCount (b ∷ rest) ≡ suc (lineCount (drop callSize (b ∷ rest))) = omega arith in
-      let rests = open-runs k (suc i) (drop callSize (b ∷ rest)) (outcomeAt now (b ∷ rest) .timeline) cut (next-timeline i now (b ∷ rest) step) (omega arith) (omega arith) in
+      let rests = open-runs k (suc i) (drop callSize (b ∷ rest)) (outcomeAt now (b ∷ rest) .track) cut (next-track i now (b ∷ rest) step) (omega arith) (omega arith) in
       rw (over, counts i count, more, append-nil, step) (ap (λ (l : List ℕ). shown (lineAt t script i) ++ l) (rw step at rests))

@@ -9,9 +9,8 @@ use Rattle.float32.specs.Helpers.{fromBits, toBits}
 use Rattle.refusal.specs.Refusal.{accepted, sheetLength}
 use Rattle.steps.specs.Times.{maxEntries}
 use Rattle.track.specs.Tracks.{live, trackBase, trackRun}
-use Rattle.track.specs.Calls.{Room, TrackCall, SetTimeScale, Play, Pause, Resume, Reset, Seek, SeekAbs, Update}
-use Rattle.timeline.specs.declared.timeline.Timeline.{Timeline}
-use Rattle.timeline.specs.Calls.{On, Out, silent, step}
+use Rattle.track.specs.declared.track.Track.{Track}
+use Rattle.track.specs.Calls.{Room, SetTimeScale, Play, Pause, Resume, Reset, Seek, SeekAbs, Update, TrackOut, silent, trackStep}
 use Rattle.sheet_format.specs.Words.{byteAt, word}
 use Rattle.sheet.specs.Build.{readingOf}
 use Rattle.call_log.specs.Lines.{Line, Refused, Accepted, Called, letterOf, shownAll}
@@ -43,8 +42,8 @@ unfoldable pub sheetNumber : List ℕ → ℕ
 sheetNumber input = cond (isCut input) sheetLength (readingOf (sheetIn input) .refusal)
 
 -- the line of a sheet that is accepted
-abbrev pub sheetLine : Timeline → Line
-sheetLine t = Accepted (length (live (t .track))) (toBits (trackBase (t .track))) (toBits (trackRun (t .track)))
+abbrev pub sheetLine : Track → Line
+sheetLine k = Accepted (length (live k)) (toBits (trackBase k)) (toBits (trackRun k))
 
 -- ---- a call
 
@@ -68,31 +67,28 @@ replies = replicate maxEntries 1
 abbrev pub room : Room
 room = record { kinds = maxEntries; amounts = maxEntries; places = maxEntries }
 
--- a call on what plays
-abbrev pub on : Timeline → TrackCall → Out
-on t call = step t (On call)
-
--- "0 play, 1 pause, 2 resume, 3 reset, 4 update, 5 seek, 6 seek_abs, 7 scale"; a call that is none leaves the timeline
-unfoldable pub outcome : Timeline → ℕ → Float → Out
-outcome t byte x =
-    cond (eqb byte 0) (on t (Play room))
-    (cond (eqb byte 1) (on t Pause)
-    (cond (eqb byte 2) (on t Resume)
-    (cond (eqb byte 3) (on t (Reset room))
-    (cond (eqb byte 4) (on t (Update x replies listSize room))
-    (cond (eqb byte 5) (on t (Seek x room))
-    (cond (eqb byte 6) (on t (SeekAbs x room))
-    (cond (eqb byte 7) (on t (SetTimeScale x)) (silent badCall t))))))))
+-- What a call does to what plays: `trackStep`, by which crate timeline defines the same calls.
+-- "0 play, 1 pause, 2 resume, 3 reset, 4 update, 5 seek, 6 seek_abs, 7 scale"; a call that is none leaves the track
+unfoldable pub outcome : Track → ℕ → Float → TrackOut
+outcome k byte x =
+    cond (eqb byte 0) (trackStep k (Play room))
+    (cond (eqb byte 1) (trackStep k Pause)
+    (cond (eqb byte 2) (trackStep k Resume)
+    (cond (eqb byte 3) (trackStep k (Reset room))
+    (cond (eqb byte 4) (trackStep k (Update x replies listSize room))
+    (cond (eqb byte 5) (trackStep k (Seek x room))
+    (cond (eqb byte 6) (trackStep k (SeekAbs x room))
+    (cond (eqb byte 7) (trackStep k (SetTimeScale x)) (silent badCall k))))))))
 
 -- the call at the front of what is left of the script; fewer bytes than a call has are no call
-unfoldable pub outcomeAt : Timeline → List ℕ → Out
-outcomeAt t rest =
-    cond (ltb (length rest) callSize) (silent badCall t) (outcome t (byteAt rest 0) (fromBits (word 4 (drop 1 rest))))
+unfoldable pub outcomeAt : Track → List ℕ → TrackOut
+outcomeAt k rest =
+    cond (ltb (length rest) callSize) (silent badCall k) (outcome k (byteAt rest 0) (fromBits (word 4 (drop 1 rest))))
 
 -- the line of a call with its number
-unfoldable pub callLine : ℕ → Out → Line
+unfoldable pub callLine : ℕ → TrackOut → Line
 callLine number o =
-    Called number (letterOf (o .timeline .track .clock .state)) (toBits (o .timeline .track .clock .elapsed)) (o .refusal) (o .listed)
+    Called number (letterOf (o .track .clock .state)) (toBits (o .track .clock .elapsed)) (o .refusal) (o .listed)
 
 -- ---- the log
 
@@ -100,14 +96,14 @@ callLine number o =
 abbrev pub fromCall : List ℕ → ℕ → List ℕ
 fromCall script i = drop (callSize * i) script
 
--- the timeline that the first i calls leave of t
-unfoldable pub afterCalls : Timeline → List ℕ → ℕ → Timeline
-afterCalls t script zero = t
-afterCalls t script (suc i) = outcomeAt (afterCalls t script i) (fromCall script i) .timeline
+-- what the first i calls leave of k
+unfoldable pub afterCalls : Track → List ℕ → ℕ → Track
+afterCalls k script zero = k
+afterCalls k script (suc i) = outcomeAt (afterCalls k script i) (fromCall script i) .track
 
 -- the line of call i: "number from 1"
-abbrev pub lineAt : Timeline → List ℕ → ℕ → Line
-lineAt t script i = callLine (suc i) (outcomeAt (afterCalls t script i) (fromCall script i))
+abbrev pub lineAt : Track → List ℕ → ℕ → Line
+lineAt k script i = callLine (suc i) (outcomeAt (afterCalls k script i) (fromCall script i))
 
 -- how many lines the script has: "leftover bytes print a last line"
 abbrev pub lineCount : List ℕ → ℕ
@@ -118,14 +114,17 @@ unfoldable pub numbersFrom : ℕ → ℕ → List ℕ
 numbersFrom i zero = []
 numbersFrom i (suc n) = i ∷ numbersFrom (suc i) n
 
-abbrev pub callLines : Timeline → List ℕ → List Line
-callLines t script = map (lineAt t script) (numbersFrom 0 (lineCount script))
+abbrev pub callLines : Track → List ℕ → List Line
+callLines k script = map (lineAt k script) (numbersFrom 0 (lineCount script))
+
+-- what plays of the panel that the sheet builds: the log names no labels
+abbrev pub trackIn : List ℕ → Track
+trackIn input = readingOf (sheetIn input) .timeline .track
 
 -- the whole log of an input, whatever its bytes
 unfoldable pub logOf : List ℕ → List Line
 logOf input =
-    let t = readingOf (sheetIn input) .timeline in
-    cond (eqb (sheetNumber input) accepted) (sheetLine t ∷ callLines t (scriptIn input)) (Refused (sheetNumber input) ∷ [])
+    cond (eqb (sheetNumber input) accepted) (sheetLine (trackIn input) ∷ callLines (trackIn input) (scriptIn input)) (Refused (sheetNumber input) ∷ [])
 
 -- the bytes that are printed
 abbrev pub logBytes : List ℕ → List ℕ

@@ -7,27 +7,25 @@ use lib.Dec.{eqb, ltb}
 use lib.ListN.{length, take, drop}
 use Rattle.refusal.specs.Refusal.{accepted}
 use Rattle.digits.specs.Digits.{over}
-use Rattle.timeline.specs.declared.timeline.Timeline.{Timeline}
-use Rattle.timeline.specs.Placements.{empty}
-use Rattle.timeline.specs.Calls.{Out}
+use Rattle.track.specs.declared.track.Track.{Track}
 use Rattle.track.specs.Tracks as tracks
+use Rattle.track.specs.Calls.{TrackOut}
 use Rattle.sheet_format.specs.Words.{word}
-use Rattle.sheet.specs.Build.{readingOf}
 use Rattle.call_log.specs.declared.calls.Outcome.{Outcome}
 use Rattle.call_log.specs.declared.Log.{Log}
 use Rattle.call_log.specs.declared.Opened.{Opened}
 use Rattle.call_log.specs.declared.Logged.{Logged}
 use Rattle.call_log.specs.Lines.{Line, Refused, shown, shownAll}
-use Rattle.call_log.specs.Logs.{maxSheet, lengthSize, sheetIn, sheetNumber, sheetLine, callSize, outcomeAt, callLine}
+use Rattle.call_log.specs.Logs.{maxSheet, lengthSize, sheetNumber, sheetLine, trackIn, callSize, outcomeAt, callLine}
 
 -- ---- a call
 
 -- what the code keeps of a call
-abbrev pub outcomeOf : Out → Outcome
-outcomeOf o = record { refusal = o .refusal; listed = length (o .listed); timeline = o .timeline }
+abbrev pub outcomeOf : TrackOut → Outcome
+outcomeOf o = record { refusal = o .refusal; listed = length (o .listed); track = o .track }
 
 -- what a call leaves in the outcome and in the lent list
-pub record Made (o : Out) (r : Outcome) (old new : List ℕ) : Type 0 where
+pub record Made (o : TrackOut) (r : Outcome) (old new : List ℕ) : Type 0 where
   pub answer : r ≡ outcomeOf o
   pub list : new ≡ tracks.over (o .listed) old
 
@@ -39,17 +37,17 @@ sheetRoom input = cond (ltb (length input) lengthSize || ltb maxSheet (word leng
 
 -- the log of a sheet that was refused, and of one that was accepted
 abbrev pub closedLog : Log
-closedLog = record { number = 0; logging = false; timeline = empty }
+closedLog = record { number = 0; logging = false; track = tracks.emptyTrack }
 
-abbrev pub newLog : Timeline → Log
-newLog t = record { number = 0; logging = true; timeline = t }
+abbrev pub newLog : Track → Log
+newLog k = record { number = 0; logging = true; track = k }
 
 -- the line of the input's sheet
 unfoldable pub openLine : List ℕ → Line
-openLine input = cond (eqb (sheetNumber input) accepted) (sheetLine (readingOf (sheetIn input) .timeline)) (Refused (sheetNumber input))
+openLine input = cond (eqb (sheetNumber input) accepted) (sheetLine (trackIn input)) (Refused (sheetNumber input))
 
 unfoldable pub openLog : List ℕ → Log
-openLog input = cond (eqb (sheetNumber input) accepted) (newLog (readingOf (sheetIn input) .timeline)) closedLog
+openLog input = cond (eqb (sheetNumber input) accepted) (newLog (trackIn input)) closedLog
 
 abbrev pub openedBy : List ℕ → Opened
 openedBy input = record { len = length (shown (openLine input)); refusal = sheetNumber input; log = openLog input }
@@ -70,11 +68,11 @@ isOver log rest = not (log .logging) || eqb (length rest) 0
 
 -- the lines of what is at the front of the script: one, or none
 unfoldable pub nextLines : Log → List ℕ → List Line
-nextLines log rest = cond (isOver log rest) [] (callLine (counted (log .number)) (outcomeAt (log .timeline) rest) ∷ [])
+nextLines log rest = cond (isOver log rest) [] (callLine (counted (log .number)) (outcomeAt (log .track) rest) ∷ [])
 
 unfoldable pub nextLog : Log → List ℕ → Log
 nextLog log rest =
-    cond (isOver log rest) log (record { number = counted (log .number); logging = true; timeline = outcomeAt (log .timeline) rest .timeline })
+    cond (isOver log rest) log (record { number = counted (log .number); logging = true; track = outcomeAt (log .track) rest .track })
 
 abbrev pub nextBytes : Log → List ℕ → List ℕ
 nextBytes log rest = shownAll (nextLines log rest)

@@ -1,16 +1,15 @@
-// The calls of a script, each made on a timeline. "Leaves always reply 1; the list holds 256."
+// The calls of a script, each made on what plays. "Leaves always reply 1; the list holds 256."
 use steps::MAX_ENTRIES;
-use timeline::timeline::Moved;
-use timeline::timeline::Timeline;
 use track::track::Secs;
 use track::track::Share;
+use track::track::Track;
+use track::track::TrackMoved;
 ghost use mathlib.Core.Path.{_≡_};
 ghost use lib.ListN.{length, replicate};
 ghost use Rattle.refusal.specs.Refusal.{accepted};
 ghost use Rattle.steps.specs.Times.{maxEntries};
-ghost use Rattle.track.specs.Calls.{Play, Reset, Seek, SeekAbs, Update};
-ghost use Rattle.timeline.specs.Calls.{silent};
-ghost use Rattle.call_log.specs.Logs.{badCall, listSize, replies, room, on, outcome};
+ghost use Rattle.track.specs.Calls.{Play, Reset, Seek, SeekAbs, Update, silent, trackStep};
+ghost use Rattle.call_log.specs.Logs.{badCall, listSize, replies, room, outcome};
 ghost use Rattle.call_log.specs.Machine.{outcomeOf, Made};
 
 // How many completed entries an update can list.
@@ -23,11 +22,11 @@ pub const BAD_CALL: u8 = 14;
 pub struct Outcome {
     pub refusal: u8,
     pub listed: usize,
-    pub timeline: Timeline,
+    pub track: Track,
 }
 
 // Makes the call of this byte with this f32.
-pub fn make(t: Timeline, byte: u8, x: f32, list: &mut [u8; LIST]) -> Outcome
+pub fn make(t: Track, byte: u8, x: f32, list: &mut [u8; LIST]) -> Outcome
     ensures { λ r. ⌜ Made (outcome t byte x) r (now (list .entry)) (now (list .exit)) ⌝ }
 {
     match byte {
@@ -43,42 +42,42 @@ pub fn make(t: Timeline, byte: u8, x: f32, list: &mut [u8; LIST]) -> Outcome
     }
 }
 
-// A call that is none leaves the timeline.
-pub fn unknown(t: Timeline) -> Outcome
+// A call that is none leaves what plays.
+pub fn unknown(t: Track) -> Outcome
     ensures { λ r. ⌜ r ≡ outcomeOf (silent badCall t) ⌝ }
 {
     Outcome {
         refusal: BAD_CALL,
         listed: 0,
-        timeline: t,
+        track: t,
     }
 }
 
 // A call that refuses nothing left this.
-fn set(t: Timeline) -> Outcome
+fn set(t: Track) -> Outcome
     ensures { λ r. ⌜ r ≡ outcomeOf (silent accepted t) ⌝ }
 {
     Outcome {
         refusal: refusal::ACCEPTED,
         listed: 0,
-        timeline: t,
+        track: t,
     }
 }
 
 // A call that lists nothing answered this.
-fn moved(m: Moved) -> Outcome
-    ensures { λ r. ⌜ r ≡ record { refusal = m .refusal; listed = 0; timeline = m .timeline } ⌝ }
+fn moved(m: TrackMoved) -> Outcome
+    ensures { λ r. ⌜ r ≡ record { refusal = m .refusal; listed = 0; track = m .track } ⌝ }
 {
-    let timeline = m.timeline;
+    let track = m.track;
     Outcome {
         refusal: m.refusal,
         listed: 0,
-        timeline,
+        track,
     }
 }
 
-fn play(t: Timeline) -> Outcome
-    ensures { λ r. ⌜ r ≡ outcomeOf (on t (Play room)) ⌝ }
+fn play(t: Track) -> Outcome
+    ensures { λ r. ⌜ r ≡ outcomeOf (trackStep t (Play room)) ⌝ }
 {
     let mut kinds = kinds();
     let mut amounts = floats();
@@ -87,8 +86,8 @@ fn play(t: Timeline) -> Outcome
     moved(m)
 }
 
-fn reset(t: Timeline) -> Outcome
-    ensures { λ r. ⌜ r ≡ outcomeOf (on t (Reset room)) ⌝ }
+fn reset(t: Track) -> Outcome
+    ensures { λ r. ⌜ r ≡ outcomeOf (trackStep t (Reset room)) ⌝ }
 {
     let mut kinds = kinds();
     let mut amounts = floats();
@@ -97,8 +96,8 @@ fn reset(t: Timeline) -> Outcome
     moved(m)
 }
 
-fn seek(t: Timeline, x: f32) -> Outcome
-    ensures { λ r. ⌜ r ≡ outcomeOf (on t (Seek x room)) ⌝ }
+fn seek(t: Track, x: f32) -> Outcome
+    ensures { λ r. ⌜ r ≡ outcomeOf (trackStep t (Seek x room)) ⌝ }
 {
     let mut kinds = kinds();
     let mut amounts = floats();
@@ -107,8 +106,8 @@ fn seek(t: Timeline, x: f32) -> Outcome
     moved(m)
 }
 
-fn seek_abs(t: Timeline, x: f32) -> Outcome
-    ensures { λ r. ⌜ r ≡ outcomeOf (on t (SeekAbs x room)) ⌝ }
+fn seek_abs(t: Track, x: f32) -> Outcome
+    ensures { λ r. ⌜ r ≡ outcomeOf (trackStep t (SeekAbs x room)) ⌝ }
 {
     let mut kinds = kinds();
     let mut amounts = floats();
@@ -117,19 +116,19 @@ fn seek_abs(t: Timeline, x: f32) -> Outcome
     moved(m)
 }
 
-fn update(t: Timeline, x: f32, list: &mut [u8; LIST]) -> Outcome
-    ensures { λ r. ⌜ Made (on t (Update x replies listSize room)) r (now (list .entry)) (now (list .exit)) ⌝ }
+fn update(t: Track, x: f32, list: &mut [u8; LIST]) -> Outcome
+    ensures { λ r. ⌜ Made (trackStep t (Update x replies listSize room)) r (now (list .entry)) (now (list .exit)) ⌝ }
 {
     let replies = replies();
     let mut kinds = kinds();
     let mut amounts = floats();
     let mut places = floats();
     let m = t.update(x, &replies, list, &mut kinds, &mut amounts, &mut places);
-    let timeline = m.timeline;
+    let track = m.track;
     Outcome {
         refusal: m.refusal,
         listed: m.listed,
-        timeline,
+        track,
     }
 }
 

@@ -9,7 +9,7 @@ pub use fields::LINE;
 use fields::wide;
 use refusal::ACCEPTED;
 use refusal::SHEET_LENGTH;
-use timeline::timeline::Timeline;
+use track::track::Track;
 ghost use mathlib.Core.Path.{_≡_};
 ghost use Prim.Native.Nat.{_+_, _<_, _≤_};
 ghost use lib.ListN.{length, drop};
@@ -25,11 +25,11 @@ pub const MAX_SHEET: usize = 2_572;
 // How many bytes a call has.
 pub const CALL: usize = 5;
 
-// A log: how many lines of calls it has, whether its sheet was accepted, and the timeline that the calls left.
+// A log: how many lines of calls it has, whether its sheet was accepted, and what plays, as the calls left it.
 pub struct Log {
     pub number: usize,
     pub logging: bool,
-    pub timeline: Timeline,
+    pub track: Track,
 }
 
 // The answer of open: how long the line is, the number by which the sheet is refused, and the log.
@@ -99,11 +99,12 @@ pub fn open(input: &[u8], line: &mut [u8; LINE]) -> Opened
         return refuse(reading.refusal, line);
     }
     let timeline = reading.timeline;
-    let len = lines::accepted(line, timeline);
+    let track = timeline.track;
+    let len = lines::accepted(line, track);
     let log = Log {
         number: 0,
         logging: true,
-        timeline,
+        track,
     };
     Opened {
         len,
@@ -117,11 +118,11 @@ fn refuse(refusal: u8, line: &mut [u8; LINE]) -> Opened
     ensures { λ _. ⌜ now (line .exit) ≡ lined (shown (Refused refusal)) (now (line .entry)) ⌝ }
 {
     let len = lines::refused(line, refusal);
-    let timeline = Timeline::new();
+    let track = Track::new();
     let log = Log {
         number: 0,
         logging: false,
-        timeline,
+        track,
     };
     Opened { len, refusal, log }
 }
@@ -139,15 +140,15 @@ pub fn next(log: Log, rest: &[u8], line: &mut [u8; LINE]) -> Logged
         return Logged { len: 0, log };
     }
     let mut list = empty_list();
-    let timeline = log.timeline;
-    let made = made_at(timeline, rest, &mut list);
+    let track = log.track;
+    let made = made_at(track, rest, &mut list);
     let number = counted(log.number);
-    let after = made.timeline;
+    let after = made.track;
     let len = lines::called(line, number, after, made.refusal, &list, made.listed);
     let log = Log {
         number,
         logging: true,
-        timeline: after,
+        track: after,
     };
     Logged { len, log }
 }
@@ -159,7 +160,7 @@ fn empty_list() -> [u8; LIST]
 }
 
 // The call at the front of the script.
-fn made_at(t: Timeline, rest: &[u8], list: &mut [u8; LIST]) -> Outcome
+fn made_at(t: Track, rest: &[u8], list: &mut [u8; LIST]) -> Outcome
     ensures { λ r. ⌜ Made (outcomeAt t (now (rest .entry))) r (now (list .entry)) (now (list .exit)) ⌝ }
 {
     if rest.len() < CALL {

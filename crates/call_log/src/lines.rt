@@ -7,7 +7,7 @@ use crate::fields::put_number;
 use crate::fields::put_sheet;
 use crate::fields::wide;
 use clock::TimelineState;
-use timeline::timeline::Timeline;
+use track::track::Track;
 ghost use mathlib.Core.Path.{_≡_};
 ghost use mathlib.Core.List.{[], map};
 ghost use Prim.Native.Nat.{_+_, _*_, _<_, _≤_};
@@ -28,15 +28,15 @@ pub fn refused(line: &mut [u8], refusal: u8) -> usize
 }
 
 // The line of a sheet that is accepted.
-pub fn accepted(line: &mut [u8], timeline: Timeline) -> usize
+pub fn accepted(line: &mut [u8], track: Track) -> usize
     requires { ⌜ lineSize ≤ length (now line) ⌝ }
-    ensures { λ r. ⌜ Wrote (shown (sheetLine timeline)) 0 (now (line .entry)) (now (line .exit)) r ⌝ }
+    ensures { λ r. ⌜ Wrote (shown (sheetLine track)) 0 (now (line .entry)) (now (line .exit)) r ⌝ }
 {
     let at = put_sheet(line);
     let at = put_number(line, at, refusal::ACCEPTED as usize);
-    let at = put_number(line, at, timeline.entry_count());
-    let at = put_bits(line, at, timeline.duration());
-    let at = put_bits(line, at, timeline.playback_duration());
+    let at = put_number(line, at, track.entry_count());
+    let at = put_bits(line, at, track.duration());
+    let at = put_bits(line, at, track.playback_duration());
     put_byte(line, at, b'\n')
 }
 
@@ -69,17 +69,20 @@ fn put_list(line: &mut [u8], start: usize, list: &[u8], n: usize) -> usize
 pub fn called(
     line: &mut [u8],
     number: usize,
-    timeline: Timeline,
+    track: Track,
     refusal: u8,
     list: &[u8],
     listed: usize,
 ) -> usize
     requires { ⌜ (listed ≤ listSize) × (listed ≤ length (now list)) × (lineSize ≤ length (now line)) ⌝ }
-    ensures { λ r. ⌜ Wrote (shown (Called number (letterOf (timeline .track .clock .state)) (toBits (timeline .track .clock .elapsed)) refusal (take listed (now (list .entry))))) 0 (now (line .entry)) (now (line .exit)) r ⌝ }
+    ensures { λ r. ⌜ Wrote (shown (Called number (letterOf (track .clock .state)) (toBits (track .clock .elapsed)) refusal (take listed (now (list .entry))))) 0 (now (line .entry)) (now (line .exit)) r ⌝ }
 {
+    let clock = track.clock;
+    let state = clock.state;
+    let elapsed = clock.elapsed;
     let at = put_decimal(line, 0, number);
-    let at = put_letter(line, at, state_letter(timeline.state()));
-    let at = put_bits(line, at, timeline.elapsed());
+    let at = put_letter(line, at, state_letter(state));
+    let at = put_bits(line, at, elapsed);
     let at = put_number(line, at, refusal as usize);
     let at = put_list(line, at, list, listed);
     put_byte(line, at, b'\n')

@@ -32,19 +32,19 @@ counted-requires : tie.Need-counted-requires
 counted-requires c κs = search needs
 
 slice-aggregate-called : tie.Need-slice-aggregate-called
-slice-aggregate-called c = list-size (c .before .before .before .before .before .before .before .before .before .before .before .before .args .log .timeline) (c .before .before .before .before .before .before .before .before .before .before .before .before .args .rest .now) (c .before .before .before .before .made-at .result) (c .before .before .before .before .before .before .before .empty-list .result) (c .before .before .before .before .made-at .last .1 .1 .0) (c .before .before .before .before .before .before .before .empty-list .ensures) (c .before .before .before .before .made-at .ensures)
+slice-aggregate-called c = list-size (c .before .before .before .before .before .before .before .before .before .before .before .before .args .log .track) (c .before .before .before .before .before .before .before .before .before .before .before .before .args .rest .now) (c .before .before .before .before .made-at .result) (c .before .before .before .before .before .before .before .empty-list .result) (c .before .before .before .before .made-at .last .1 .1 .0) (c .before .before .before .before .before .before .before .empty-list .ensures) (c .before .before .before .before .made-at .ensures)
 
 called-requires : tie.Need-called-requires
 called-requires c κs =
-    let count = list-count (c .before .before .before .before .before .before .before .before .before .before .before .before .args .log .timeline) (c .before .before .before .before .before .before .before .before .before .before .before .before .args .rest .now) (c .before .before .before .before .made-at .result) (c .before .before .before .before .before .before .before .empty-list .result) (c .before .before .before .before .made-at .last .1 .1 .0) (c .before .before .before .before .before .before .before .empty-list .ensures) (c .before .before .before .before .made-at .ensures) in
-    let size = list-size (c .before .before .before .before .before .before .before .before .before .before .before .before .args .log .timeline) (c .before .before .before .before .before .before .before .before .before .before .before .before .args .rest .now) (c .before .before .before .before .made-at .result) (c .before .before .before .before .before .before .before .empty-list .result) (c .before .before .before .before .made-at .last .1 .1 .0) (c .before .before .before .before .before .before .before .empty-list .ensures) (c .before .before .before .before .made-at .ensures) in
+    let count = list-count (c .before .before .before .before .before .before .before .before .before .before .before .before .args .log .track) (c .before .before .before .before .before .before .before .before .before .before .before .before .args .rest .now) (c .before .before .before .before .made-at .result) (c .before .before .before .before .before .before .before .empty-list .result) (c .before .before .before .before .made-at .last .1 .1 .0) (c .before .before .before .before .before .before .before .empty-list .ensures) (c .before .before .before .before .made-at .ensures) in
+    let size = list-size (c .before .before .before .before .before .before .before .before .before .before .before .before .args .log .track) (c .before .before .before .before .before .before .before .before .before .before .before .before .args .rest .now) (c .before .before .before .before .made-at .result) (c .before .before .before .before .before .before .before .empty-list .result) (c .before .before .before .before .made-at .last .1 .1 .0) (c .before .before .before .before .before .before .before .empty-list .ensures) (c .before .before .before .before .made-at .ensures) in
     let line : 1060 ≡ length (c .before .before .before .before .before .before .before .before .before .before .before .before .args .line .now) = search needs in
     (count, omega arith, omega arith)
 
 returns-3 : tie.Need-returns-3
 returns-3 c =
     let o = next-goes (c .before .before .before .before .before .before .before .before .before .before .before .before .before .args .log) (c .before .before .before .before .before .before .before .before .before .before .before .before .before .args .rest .now) (rw (c .before .before .before .before .before .before .before .before .before .before .if1 .left, ne-eqb (length (c .before .before .before .before .before .before .before .before .before .before .before .before .before .args .rest .now)) 0 (c .before .before .before .before .before .before .before .before .before .if2 .left))) in
-    let l = line-is (c .before .before .before .before .before .before .before .before .before .before .before .before .before .args .log .timeline) (c .before .before .before .before .before .before .before .before .before .before .before .before .before .args .rest .now) (c .before .before .before .before .before .made-at .result) (c .before .before .before .before .before .before .before .before .empty-list .result) (c .before .before .before .before .before .made-at .last .1 .1 .0) (c .before .before .before .before .before .before .before .before .empty-list .ensures) (c .before .before .before .before .before .made-at .ensures) (c .before .before .before .before .counted .result) (counted (c .before .before .before .before .before .before .before .before .before .before .before .before .before .args .log .number)) (c .before .before .before .before .counted .ensures) in
+    let l = line-is (c .before .before .before .before .before .before .before .before .before .before .before .before .before .args .log .track) (c .before .before .before .before .before .before .before .before .before .before .before .before .before .args .rest .now) (c .before .before .before .before .before .made-at .result) (c .before .before .before .before .before .before .before .before .empty-list .result) (c .before .before .before .before .before .made-at .last .1 .1 .0) (c .before .before .before .before .before .before .before .before .empty-list .ensures) (c .before .before .before .before .before .made-at .ensures) (c .before .before .before .before .counted .result) (counted (c .before .before .before .before .before .before .before .before .before .before .before .before .before .args .log .number)) (c .before .before .before .before .counted .ensures) in
     let w = wrote-as (sym (ap shown l)) (c .called .ensures) in
     (rw (o .0, o .1, wrote-all w, c .before .before .before .before .counted .ensures, c .before .before .before .before .before .made-at .ensures .answer), rw (o .0) (w .bytes))
 

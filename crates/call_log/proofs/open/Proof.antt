@@ -1,9 +1,12 @@
 -- The tests in turn, and the line.
 use native.Mathlib.Omega.{arith}
-use mathlib.Core.Path.{_≡_, sym, _∙_}
+use mathlib.Core.Path.{_≡_, sym, ap, _∙_}
+use Rattle.track.specs.declared.track.Track.{Track}
+use Rattle.sheet.specs.declared.Reading.{Reading}
 use Rattle.sheet.specs.Build.{readingOf}
-use Rattle.call_log.specs.Logs.{sheetIn, sheetNumber}
-use Rattle.call_log.proofs.Writing.{wrote-all}
+use Rattle.call_log.specs.Lines.{shown}
+use Rattle.call_log.specs.Logs.{sheetIn, sheetNumber, sheetLine, trackIn}
+use Rattle.call_log.proofs.Writing.{wrote-as, wrote-all}
 use Rattle.call_log.proofs.Opening.{uncut, room-whole, part-is, number-cut, number-whole, open-refused, open-accepted}
 use borrow.Author.Needs.{needs}
 use Rattle.call_log.proofs.open.Statement.{statement}
@@ -62,13 +65,15 @@ accepted-requires c κs = search needs
 
 returns-3 : tie.Need-returns-3
 returns-3 c =
-    let s = c .before .before .before .before .before .before .before .before .before .before .before .args .input .now in
-    let e = sym (c .before .before .before .before .before .before .before .before .before .is-cut .ensures) ∙ c .before .before .before .before .before .before .before .before .if1 .left in
-    let p = part-is s (c .before .before .before .before .before .before .before .sheet-len .result) (uncut s e) (c .before .before .before .before .before .before .before .sheet-len .ensures) in
-    let r : c .before .before .before .before .before .read .result ≡ readingOf (sheetIn s) = c .before .before .before .before .before .read .ensures ∙ rw p in
-    let n : c .before .before .before .before .before .read .result .refusal ≡ sheetNumber s = rw r (sym (number-whole s e)) in
-    let o = open-accepted s (sym n ∙ c .before .before .before .if2 .left) in
-    (rw (o .0, o .1, wrote-all (c .accepted .ensures), r, sym n ∙ c .before .before .before .if2 .left), rw (o .0, ← r) (c .accepted .ensures .bytes))
+    let s = c .before .before .before .before .before .before .before .before .before .before .before .before .args .input .now in
+    let e = sym (c .before .before .before .before .before .before .before .before .before .before .is-cut .ensures) ∙ c .before .before .before .before .before .before .before .before .before .if1 .left in
+    let p = part-is s (c .before .before .before .before .before .before .before .before .sheet-len .result) (uncut s e) (c .before .before .before .before .before .before .before .before .sheet-len .ensures) in
+    let r : c .before .before .before .before .before .before .read .result ≡ readingOf (sheetIn s) = c .before .before .before .before .before .before .read .ensures ∙ rw p in
+    let n : c .before .before .before .before .before .before .read .result .refusal ≡ sheetNumber s = rw r (sym (number-whole s e)) in
+    let o = open-accepted s (sym n ∙ c .before .before .before .before .if2 .left) in
+    let k : trackIn s ≡ c .before .before .before .before .before .before .read .result .timeline .track = ap (λ (q : Reading). q .timeline .track) (sym r) in
+    let w = wrote-as (ap (λ (t : Track). shown (sheetLine t)) k) (c .accepted .ensures) in
+    (rw (o .0, o .1, wrote-all w, k, sym n ∙ c .before .before .before .before .if2 .left), rw (o .0) (w .bytes))
 
 pub open-spec : {M : Type 1} → statement M
 open-spec =
