@@ -6,7 +6,7 @@ use lib.Dec.{eqb, ltb}
 use lib.ListN.{length, take, drop, replicate}
 use lib.Ieee.{Float}
 use Rattle.float32.specs.Helpers.{fromBits, toBits}
-use Rattle.refusal.specs.Refusal.{accepted, sheetLength}
+use Rattle.refusal.specs.Refusal.{accepted, sheetLength, badCall}
 use Rattle.steps.specs.Times.{maxEntries}
 use Rattle.track.specs.Tracks.{live, trackBase, trackRun}
 use Rattle.track.specs.declared.track.Track.{Track}
@@ -50,10 +50,6 @@ sheetLine k = Accepted (length (live k)) (toBits (trackBase k)) (toBits (trackRu
 -- "calls of 5 bytes: a call byte .. and an f32"
 abbrev pub callSize : ℕ
 callSize = 5
-
--- "14: unknown call byte, or 1 to 4 bytes left over"
-abbrev pub badCall : ℕ
-badCall = 14
 
 -- "the list holds 256"
 abbrev pub listSize : ℕ

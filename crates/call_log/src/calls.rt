@@ -6,17 +6,14 @@ use track::track::Track;
 use track::track::TrackMoved;
 ghost use mathlib.Core.Path.{_≡_};
 ghost use lib.ListN.{length, replicate};
-ghost use Rattle.refusal.specs.Refusal.{accepted};
+ghost use Rattle.refusal.specs.Refusal.{accepted, badCall};
 ghost use Rattle.steps.specs.Times.{maxEntries};
 ghost use Rattle.track.specs.Calls.{Play, Reset, Seek, SeekAbs, Update, silent, trackStep};
-ghost use Rattle.call_log.specs.Logs.{badCall, listSize, replies, room, outcome};
+ghost use Rattle.call_log.specs.Logs.{listSize, replies, room, outcome};
 ghost use Rattle.call_log.specs.Machine.{outcomeOf, Made};
 
 // How many completed entries an update can list.
 pub const LIST: usize = 256;
-
-// An unknown call byte, or 1 to 4 bytes left over.
-pub const BAD_CALL: u8 = 14;
 
 // What a call leaves and answers.
 pub struct Outcome {
@@ -47,7 +44,7 @@ pub fn unknown(t: Track) -> Outcome
     ensures { λ r. ⌜ r ≡ outcomeOf (silent badCall t) ⌝ }
 {
     Outcome {
-        refusal: BAD_CALL,
+        refusal: refusal::BAD_CALL,
         listed: 0,
         track: t,
     }

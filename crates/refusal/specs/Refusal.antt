@@ -56,6 +56,10 @@ sheetZero = 12
 abbrev pub gridTooLarge : ℕ
 gridTooLarge = 13
 
+-- an unknown call byte, or 1 to 4 bytes left over
+abbrev pub badCall : ℕ
+badCall = 14
+
 -- the room for a written sheet is too short
 abbrev pub roomTooShort : ℕ
 roomTooShort = 15

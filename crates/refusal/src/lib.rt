@@ -41,5 +41,8 @@ pub const SHEET_ZERO: u8 = 12;
 // A grid side is above 65,535.
 pub const GRID_TOO_LARGE: u8 = 13;
 
+// An unknown call byte, or 1 to 4 bytes left over.
+pub const BAD_CALL: u8 = 14;
+
 // The room for a written sheet is too short.
 pub const ROOM_TOO_SHORT: u8 = 15;
