@@ -4,7 +4,7 @@ use track::track::Secs;
 use track::track::Share;
 
 // What a job starts from.
-pub fn start(job: u8, entries: u8) -> Timeline {
+pub(crate) fn start(job: u8, entries: u8) -> Timeline {
     let t = played(crate::jobs::built(job, entries));
     if job == crate::jobs::WALK {
         return seeks_abs(t, crate::jobs::late(), 0.0, 1);
@@ -12,11 +12,11 @@ pub fn start(job: u8, entries: u8) -> Timeline {
     t
 }
 
-pub fn base(t: Timeline) -> f32 {
+pub(crate) fn base(t: Timeline) -> f32 {
     t.duration()
 }
 
-pub fn elapsed(t: Timeline) -> f32 {
+pub(crate) fn elapsed(t: Timeline) -> f32 {
     t.elapsed()
 }
 
@@ -29,7 +29,7 @@ fn played(t: Timeline) -> Timeline {
 }
 
 // Seeks to thousandths of the base, after a first second.
-pub fn seeks_abs(from: Timeline, first: f32, base: f32, turns: u32) -> Timeline {
+pub(crate) fn seeks_abs(from: Timeline, first: f32, base: f32, turns: u32) -> Timeline {
     let mut t = from;
     let mut kinds = [0u8; 64];
     let mut amounts = [0.0f32; 64];
@@ -45,7 +45,7 @@ pub fn seeks_abs(from: Timeline, first: f32, base: f32, turns: u32) -> Timeline 
 }
 
 // Seeks to thousandths of the run.
-pub fn seeks(from: Timeline, turns: u32) -> f32 {
+pub(crate) fn seeks(from: Timeline, turns: u32) -> f32 {
     let mut t = from;
     let mut kinds = [0u8; 64];
     let mut amounts = [0.0f32; 64];
@@ -61,7 +61,7 @@ pub fn seeks(from: Timeline, turns: u32) -> f32 {
 }
 
 // Updates, and `play` wherever the run ends. They may be refused by 5.
-pub fn updates(from: Timeline, dt: f32, turns: u32) -> f32 {
+pub(crate) fn updates(from: Timeline, dt: f32, turns: u32) -> f32 {
     let mut t = from;
     let replies = [1u8; 64];
     let mut list = [0u8; 256];

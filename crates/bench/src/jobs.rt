@@ -23,7 +23,7 @@ fn mode_of(job: u8) -> Loop {
 }
 
 // The step of a job that updates.
-pub fn step(job: u8, base: f32, turns: u32) -> f32 {
+pub(crate) fn step(job: u8, base: f32, turns: u32) -> f32 {
     match job {
         0 => base / float32::from_u32(turns) * 0.9,
         1 => base * 0.1,
@@ -33,13 +33,13 @@ pub fn step(job: u8, base: f32, turns: u32) -> f32 {
 }
 
 // The second from which the longest walk goes.
-pub fn late() -> f32 {
+pub(crate) fn late() -> f32 {
     float32::from_bits(0x4235_57d7)
 }
 
 // Entries that start one after another and overlap. For the longest walk they are so short that an update by three units in the
 // last place walks over 642 cycles, 385 of them without a completion, before it is known that they outnumber a list of 256.
-pub fn built(job: u8, entries: u8) -> Timeline {
+pub(crate) fn built(job: u8, entries: u8) -> Timeline {
     let mut t = Timeline::new().looping(mode_of(job));
     let mut i = 0u8;
     while i < entries {
@@ -68,7 +68,7 @@ fn lasting(job: u8, at: f32) -> f32 {
 }
 
 // Whole timelines, built again and again: as many entries as turns.
-pub fn adds(entries: u8, turns: u32) -> f32 {
+pub(crate) fn adds(entries: u8, turns: u32) -> f32 {
     let times = divided(turns, entries);
     let mut base = 0.0f32;
     let mut i = 0u32;

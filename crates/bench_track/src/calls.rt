@@ -4,7 +4,7 @@ use track::track::Share;
 use track::track::Track;
 
 // What a job starts from.
-pub fn start(job: u8, entries: u8) -> Track {
+pub(crate) fn start(job: u8, entries: u8) -> Track {
     let built = crate::jobs::built(job, entries);
     let t = played(built.track);
     if job == crate::jobs::WALK {
@@ -13,11 +13,11 @@ pub fn start(job: u8, entries: u8) -> Track {
     t
 }
 
-pub fn base(t: Track) -> f32 {
+pub(crate) fn base(t: Track) -> f32 {
     t.duration()
 }
 
-pub fn elapsed(t: Track) -> f32 {
+pub(crate) fn elapsed(t: Track) -> f32 {
     let clock = t.clock;
     clock.elapsed
 }
@@ -31,7 +31,7 @@ fn played(t: Track) -> Track {
 }
 
 // Seeks to thousandths of the base, after a first second.
-pub fn seeks_abs(from: Track, first: f32, base: f32, turns: u32) -> Track {
+pub(crate) fn seeks_abs(from: Track, first: f32, base: f32, turns: u32) -> Track {
     let mut t = from;
     let mut kinds = [0u8; 64];
     let mut amounts = [0.0f32; 64];
@@ -47,7 +47,7 @@ pub fn seeks_abs(from: Track, first: f32, base: f32, turns: u32) -> Track {
 }
 
 // Seeks to thousandths of the run.
-pub fn seeks(from: Track, turns: u32) -> f32 {
+pub(crate) fn seeks(from: Track, turns: u32) -> f32 {
     let mut t = from;
     let mut kinds = [0u8; 64];
     let mut amounts = [0.0f32; 64];
@@ -63,7 +63,7 @@ pub fn seeks(from: Track, turns: u32) -> f32 {
 }
 
 // Updates, and `play` wherever the run ends. They may be refused by 5.
-pub fn updates(from: Track, dt: f32, turns: u32) -> f32 {
+pub(crate) fn updates(from: Track, dt: f32, turns: u32) -> f32 {
     let mut t = from;
     let replies = [1u8; 64];
     let mut list = [0u8; 256];

@@ -14,7 +14,7 @@ pub struct Answer {
 const UNKNOWN: u8 = 255;
 
 // The answer to question `op`. A float among the operands is given by its bits.
-pub fn ask(op: u8, a: u32, b: u32, c: u32, d: u32, e: u32) -> Answer
+pub(crate) fn ask(op: u8, a: u32, b: u32, c: u32, d: u32, e: u32) -> Answer
     ensures { λ r. ⌜ r ≡ answerOf op a b c d e ⌝ }
 {
     let x = float32::from_bits(a);

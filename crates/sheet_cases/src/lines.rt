@@ -28,7 +28,7 @@ pub const SHEET: usize = 4096;
 const OLD: u8 = 238;
 
 // The lines of a sheet.
-pub fn sheet(out: &mut [u8; TEXT], start: usize, bytes: &[u8]) -> usize {
+pub(crate) fn sheet(out: &mut [u8; TEXT], start: usize, bytes: &[u8]) -> usize {
     let reading = sheet::read(bytes);
     let d = reading.described;
     let t = reading.timeline;

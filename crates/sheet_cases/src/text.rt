@@ -8,13 +8,13 @@ const FNV_OFFSET: u32 = 0x811c_9dc5;
 
 const FNV_PRIME: u64 = 0x0100_0193;
 
-pub fn least(n: usize, top: usize) -> usize
+pub(crate) fn least(n: usize, top: usize) -> usize
     ensures { λ r. ⌜ r ≤ top ⌝ }
 {
     if n < top { n } else { top }
 }
 
-pub fn byte(out: &mut [u8; TEXT], at: usize, b: u8) -> usize {
+pub(crate) fn byte(out: &mut [u8; TEXT], at: usize, b: u8) -> usize {
     if at < TEXT {
         out[at] = b;
         return at + 1;
@@ -22,7 +22,7 @@ pub fn byte(out: &mut [u8; TEXT], at: usize, b: u8) -> usize {
     at
 }
 
-pub fn bytes(out: &mut [u8; TEXT], start: usize, text: &[u8]) -> usize {
+pub(crate) fn bytes(out: &mut [u8; TEXT], start: usize, text: &[u8]) -> usize {
     let mut at = start;
     let mut i = 0;
     while i < text.len() {
@@ -32,33 +32,33 @@ pub fn bytes(out: &mut [u8; TEXT], start: usize, text: &[u8]) -> usize {
     at
 }
 
-pub fn decimal(out: &mut [u8; TEXT], at: usize, n: usize) -> usize {
+pub(crate) fn decimal(out: &mut [u8; TEXT], at: usize, n: usize) -> usize {
     at + digits::put_decimal(n, out, at)
 }
 
-pub fn hex2(out: &mut [u8; TEXT], at: usize, b: u8) -> usize {
+pub(crate) fn hex2(out: &mut [u8; TEXT], at: usize, b: u8) -> usize {
     at + digits::put_hex2(b, out, at)
 }
 
 // The fields of a line, each after a space.
 
-pub fn letter(out: &mut [u8; TEXT], start: usize, b: u8) -> usize {
+pub(crate) fn letter(out: &mut [u8; TEXT], start: usize, b: u8) -> usize {
     let at = byte(out, start, b' ');
     byte(out, at, b)
 }
 
-pub fn number(out: &mut [u8; TEXT], start: usize, n: usize) -> usize {
+pub(crate) fn number(out: &mut [u8; TEXT], start: usize, n: usize) -> usize {
     let at = byte(out, start, b' ');
     decimal(out, at, n)
 }
 
-pub fn bits(out: &mut [u8; TEXT], start: usize, n: u32) -> usize {
+pub(crate) fn bits(out: &mut [u8; TEXT], start: usize, n: u32) -> usize {
     let at = byte(out, start, b' ');
     at + digits::put_hex8(n, out, at)
 }
 
 // A float's bits, with those of +0.0 for either zero.
-pub fn float(out: &mut [u8; TEXT], at: usize, x: f32) -> usize {
+pub(crate) fn float(out: &mut [u8; TEXT], at: usize, x: f32) -> usize {
     if x == 0.0 {
         return bits(out, at, 0);
     }
@@ -66,7 +66,7 @@ pub fn float(out: &mut [u8; TEXT], at: usize, x: f32) -> usize {
 }
 
 // FNV-1a of the bytes of a text from one place to another.
-pub fn digest(text: &[u8; TEXT], from: usize, to: usize) -> u32 {
+pub(crate) fn digest(text: &[u8; TEXT], from: usize, to: usize) -> u32 {
     let end = least(to, TEXT);
     let mut d = FNV_OFFSET;
     let mut i = from;

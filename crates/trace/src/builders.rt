@@ -29,7 +29,7 @@ struct Reached {
 }
 
 // Call 13: introspect of the group around the timeline.
-pub fn introspecting(buffer: &mut [u8; BUFFER], run: Run) -> Run {
+pub(crate) fn introspecting(buffer: &mut [u8; BUFFER], run: Run) -> Run {
     let t = run.timeline;
     let group = AnimationGroup::from_timeline(t);
     let s = run.line(buffer, refusal::ACCEPTED, t);
@@ -38,7 +38,7 @@ pub fn introspecting(buffer: &mut [u8; BUFFER], run: Run) -> Run {
 }
 
 // Calls 16 to 19: stagger, and a group's parallel, sequence and stagger.
-pub fn building(script: &[u8], buffer: &mut [u8; BUFFER], run: Run) -> Run {
+pub(crate) fn building(script: &[u8], buffer: &mut [u8; BUFFER], run: Run) -> Run {
     let cursor = run.cursor;
     let delay = cursor.word_if(run.byte == 16, script);
     let read = delay.pattern_if(run.byte == 19, script);
@@ -91,7 +91,7 @@ fn timeline_of(b: GroupBuilt) -> Built {
 }
 
 // Call 20: sequence.
-pub fn sequencing(script: &[u8], buffer: &mut [u8; BUFFER], run: Run) -> Run {
+pub(crate) fn sequencing(script: &[u8], buffer: &mut [u8; BUFFER], run: Run) -> Run {
     let cursor = run.cursor;
     let read = cursor.byte(script);
     let n = least(read.value as usize, ITEMS);

@@ -41,7 +41,7 @@ pub struct Run {
 }
 
 impl Run {
-    pub fn new(sink: Sink) -> Run {
+    pub(crate) fn new(sink: Sink) -> Run {
         Run {
             number: 0,
             byte: 0,
@@ -65,7 +65,7 @@ impl Run {
     }
 
     // The call is not made.
-    pub fn cut(self) -> Run {
+    pub(crate) fn cut(self) -> Run {
         let cursor = self.cursor;
         let stopped = cursor.cut();
         let mut r = self;
@@ -74,7 +74,7 @@ impl Run {
     }
 
     // The call was made, and left this.
-    pub fn after(self, cursor: Cursor, sink: Sink, timeline: Timeline) -> Run {
+    pub(crate) fn after(self, cursor: Cursor, sink: Sink, timeline: Timeline) -> Run {
         Run {
             number: self.number,
             byte: self.byte,
@@ -85,14 +85,14 @@ impl Run {
     }
 
     // Prints the line of the call, which left this timeline.
-    pub fn line(self, buffer: &mut [u8; BUFFER], refusal: u8, timeline: Timeline) -> Sink {
+    pub(crate) fn line(self, buffer: &mut [u8; BUFFER], refusal: u8, timeline: Timeline) -> Sink {
         let sink = self.sink;
         lines::call(sink, buffer, self.number, self.byte, refusal, timeline)
     }
 }
 
 // Makes the next call.
-pub fn next(script: &[u8], buffer: &mut [u8; BUFFER], number: usize, run: Run) -> Run {
+pub(crate) fn next(script: &[u8], buffer: &mut [u8; BUFFER], number: usize, run: Run) -> Run {
     let cursor = run.cursor;
     let read = cursor.byte(script);
     let byte = read.value;

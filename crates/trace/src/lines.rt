@@ -20,7 +20,7 @@ use timeline::timeline::Timeline;
 use timeline::timeline::Updated;
 
 // `i call refusal state elapsed scale fired count base run progress marks`
-pub fn call(
+pub(crate) fn call(
     sink: Sink,
     buffer: &mut [u8; BUFFER],
     number: usize,
@@ -80,7 +80,7 @@ fn marks(sink: Sink, buffer: &mut [u8; BUFFER], t: Timeline) -> Sink {
 }
 
 // `  rows` and each row below the longest of the three slices.
-pub fn rows(
+pub(crate) fn rows(
     sink: Sink,
     buffer: &mut [u8; BUFFER],
     kinds: &[u8; ROWS],
@@ -121,7 +121,7 @@ fn part(sink: Sink, buffer: &mut [u8; BUFFER], there: bool, x: f32) -> Sink {
 }
 
 // `  update running completed listed` and each byte of the list.
-pub fn update(
+pub(crate) fn update(
     sink: Sink,
     buffer: &mut [u8; BUFFER],
     made: Updated,
@@ -146,7 +146,7 @@ fn wide(byte: u8) -> usize {
 }
 
 // `  entries` and each entry.
-pub fn entries(sink: Sink, buffer: &mut [u8; BUFFER], t: Timeline) -> Sink {
+pub(crate) fn entries(sink: Sink, buffer: &mut [u8; BUFFER], t: Timeline) -> Sink {
     let n = least(t.entry_count(), MAX_ENTRIES);
     let track = t.track;
     let entries = track.entries;
@@ -185,7 +185,11 @@ fn label_text(sink: Sink, buffer: &mut [u8; BUFFER], label: Label) -> Sink {
 }
 
 // `  introspect kind progress elapsed duration state`
-pub fn introspect(sink: Sink, buffer: &mut [u8; BUFFER], shown: AnimationIntrospection) -> Sink {
+pub(crate) fn introspect(
+    sink: Sink,
+    buffer: &mut [u8; BUFFER],
+    shown: AnimationIntrospection,
+) -> Sink {
     let kind = shown.kind;
     let duration = shown.duration;
     let state = shown.state;
@@ -222,14 +226,14 @@ fn playback_letter(state: PlaybackState) -> u8 {
 }
 
 // `  delay bits`
-pub fn delay(sink: Sink, buffer: &mut [u8; BUFFER], secs: f32) -> Sink {
+pub(crate) fn delay(sink: Sink, buffer: &mut [u8; BUFFER], secs: f32) -> Sink {
     let s = sink.bytes(buffer, b"  delay");
     let s = s.float(buffer, b' ', secs);
     s.byte(buffer, b'\n')
 }
 
 // `  items` and the refusal and cursor of each.
-pub fn items(
+pub(crate) fn items(
     sink: Sink,
     buffer: &mut [u8; BUFFER],
     refusals: [u8; ITEMS],

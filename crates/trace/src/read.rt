@@ -80,7 +80,7 @@ pub struct Item {
 
 impl Cursor {
     // At the beginning of a script.
-    pub fn new() -> Cursor {
+    pub(crate) fn new() -> Cursor {
         Cursor {
             at: 0,
             whole: true,
@@ -88,7 +88,7 @@ impl Cursor {
         }
     }
 
-    pub fn cut(self) -> Cursor
+    pub(crate) fn cut(self) -> Cursor
         ensures { λ r. ⌜ r .value < 256 ⌝ }
     {
         Cursor {
@@ -103,7 +103,7 @@ impl Cursor {
         if self.value <= top { self } else { self.cut() }
     }
 
-    pub fn byte(self, script: &[u8]) -> Cursor
+    pub(crate) fn byte(self, script: &[u8]) -> Cursor
         ensures { λ r. ⌜ r .value < 256 ⌝ }
     {
         let at = self.at;
@@ -118,7 +118,7 @@ impl Cursor {
     }
 
     // A u16.
-    pub fn half(self, script: &[u8]) -> Cursor
+    pub(crate) fn half(self, script: &[u8]) -> Cursor
         ensures { λ r. ⌜ r .value < 65536 ⌝ }
     {
         let low = self.byte(script);
@@ -131,7 +131,7 @@ impl Cursor {
     }
 
     // A u32.
-    pub fn word(self, script: &[u8]) -> Cursor {
+    pub(crate) fn word(self, script: &[u8]) -> Cursor {
         let low = self.half(script);
         let high = low.half(script);
         Cursor {
@@ -142,12 +142,12 @@ impl Cursor {
     }
 
     // The same, where there is one.
-    pub fn word_if(self, there: bool, script: &[u8]) -> Cursor {
+    pub(crate) fn word_if(self, there: bool, script: &[u8]) -> Cursor {
         if there { self.word(script) } else { self }
     }
 
     // The f32 whose bits were read.
-    pub fn float(self) -> f32 {
+    pub(crate) fn float(self) -> f32 {
         float32::from_bits(self.value)
     }
 
@@ -176,7 +176,7 @@ impl Cursor {
     }
 
     // A label: its length as a byte, then its bytes.
-    pub fn label(self, script: &[u8]) -> Span {
+    pub(crate) fn label(self, script: &[u8]) -> Span {
         let len = self.byte(script);
         len.span(script)
     }
@@ -201,7 +201,7 @@ impl Cursor {
         allowed.span(script)
     }
 
-    pub fn room(self, script: &[u8]) -> Room
+    pub(crate) fn room(self, script: &[u8]) -> Room
         ensures { λ r. ⌜ (r .kinds ≤ 300) × (r .amounts ≤ 300) × (r .places ≤ 300) ⌝ }
     {
         let kinds = self.half(script);
@@ -215,7 +215,7 @@ impl Cursor {
         }
     }
 
-    pub fn update(self, script: &[u8]) -> Update
+    pub(crate) fn update(self, script: &[u8]) -> Update
         ensures { λ r. ⌜ (r .room .kinds ≤ 300) × (r .room .amounts ≤ 300) × (r .room .places ≤ 300) × (r .list ≤ 1000) ⌝ }
     {
         let dt = self.word(script);
@@ -233,7 +233,7 @@ impl Cursor {
         }
     }
 
-    pub fn placement(self, script: &[u8]) -> Placement {
+    pub(crate) fn placement(self, script: &[u8]) -> Placement {
         let read = self.byte(script);
         let kind = read.value;
         let allowed = read.at_most(4);
@@ -249,7 +249,7 @@ impl Cursor {
     }
 
     // A loop mode and a number, which some modes have.
-    pub fn looping(self, script: &[u8]) -> Mode {
+    pub(crate) fn looping(self, script: &[u8]) -> Mode {
         let mode = self.byte(script);
         let allowed = mode.at_most(4);
         let number = allowed.word(script);
@@ -259,7 +259,7 @@ impl Cursor {
         }
     }
 
-    pub fn pattern(self, script: &[u8]) -> Pattern {
+    pub(crate) fn pattern(self, script: &[u8]) -> Pattern {
         let read = self.byte(script);
         let kind = read.value;
         let allowed = read.at_most(3);
@@ -272,7 +272,7 @@ impl Cursor {
     }
 
     // The same, where there is one.
-    pub fn pattern_if(self, there: bool, script: &[u8]) -> Pattern {
+    pub(crate) fn pattern_if(self, there: bool, script: &[u8]) -> Pattern {
         if there {
             self.pattern(script)
         } else {
@@ -343,7 +343,7 @@ impl Cursor {
     }
 
     // Their number, then an f32 each.
-    pub fn durations(self, script: &[u8]) -> Durations {
+    pub(crate) fn durations(self, script: &[u8]) -> Durations {
         let read = self.half(script);
         let mut next = read.at_most(MANY);
         let len = least(next.value as usize, ROWS);
@@ -358,7 +358,7 @@ impl Cursor {
     }
 
     // An item of a sequence. What then_for is told of the leaf's own duration is passed over.
-    pub fn item(self, script: &[u8]) -> Item {
+    pub(crate) fn item(self, script: &[u8]) -> Item {
         let read = self.byte(script);
         let kind = read.value;
         let allowed = read.at_most(2);
@@ -386,7 +386,7 @@ fn put(values: &mut [f32; ROWS], at: usize, x: f32)
 }
 
 // The bytes of a span.
-pub fn bytes(script: &[u8], s: Span) -> &[u8] {
+pub(crate) fn bytes(script: &[u8], s: Span) -> &[u8] {
     let from = s.from;
     let len = s.len;
     if from <= script.len() {
@@ -399,7 +399,7 @@ pub fn bytes(script: &[u8], s: Span) -> &[u8] {
 }
 
 // A number above `top` counts as `top`.
-pub fn least(n: usize, top: usize) -> usize
+pub(crate) fn least(n: usize, top: usize) -> usize
     ensures { λ r. ⌜ r ≤ top ⌝ }
 {
     if n < top { n } else { top }

@@ -22,7 +22,7 @@ pub struct Sink {
 }
 
 impl Sink {
-    pub fn new(text: bool) -> Sink {
+    pub(crate) fn new(text: bool) -> Sink {
         Sink {
             text,
             used: 0,
@@ -69,7 +69,7 @@ impl Sink {
     }
 
     // At the end of a script: the rest of its text, or the line of its digest.
-    pub fn end(self, buffer: &[u8; BUFFER]) {
+    pub(crate) fn end(self, buffer: &[u8; BUFFER]) {
         let done = self.flush(buffer);
         if !self.text {
             let mut line = [b'\n'; 9];
@@ -78,14 +78,14 @@ impl Sink {
         }
     }
 
-    pub fn byte(self, buffer: &mut [u8; BUFFER], b: u8) -> Sink {
+    pub(crate) fn byte(self, buffer: &mut [u8; BUFFER], b: u8) -> Sink {
         let s = self.room(&*buffer);
         let at = s.used;
         buffer[at] = b;
         s.with_used(at + 1)
     }
 
-    pub fn bytes(self, buffer: &mut [u8; BUFFER], text: &[u8]) -> Sink {
+    pub(crate) fn bytes(self, buffer: &mut [u8; BUFFER], text: &[u8]) -> Sink {
         let mut s = self;
         let mut i = 0;
         while i < text.len() {
@@ -96,7 +96,7 @@ impl Sink {
     }
 
     // A number in decimal.
-    pub fn decimal(self, buffer: &mut [u8; BUFFER], n: usize) -> Sink {
+    pub(crate) fn decimal(self, buffer: &mut [u8; BUFFER], n: usize) -> Sink {
         let s = self.room(&*buffer);
         let at = s.used;
         let written = digits::put_decimal(n, buffer, at);
@@ -104,7 +104,7 @@ impl Sink {
     }
 
     // Two hex digits.
-    pub fn hex(self, buffer: &mut [u8; BUFFER], b: u8) -> Sink {
+    pub(crate) fn hex(self, buffer: &mut [u8; BUFFER], b: u8) -> Sink {
         let s = self.room(&*buffer);
         let at = s.used;
         digits::put_hex2(b, buffer, at);
@@ -121,17 +121,17 @@ impl Sink {
 
     // The fields of a line, each after the byte that parts it from the one before.
 
-    pub fn number(self, buffer: &mut [u8; BUFFER], before: u8, n: usize) -> Sink {
+    pub(crate) fn number(self, buffer: &mut [u8; BUFFER], before: u8, n: usize) -> Sink {
         let s = self.byte(buffer, before);
         s.decimal(buffer, n)
     }
 
-    pub fn float(self, buffer: &mut [u8; BUFFER], before: u8, x: f32) -> Sink {
+    pub(crate) fn float(self, buffer: &mut [u8; BUFFER], before: u8, x: f32) -> Sink {
         let s = self.byte(buffer, before);
         s.bits(buffer, x)
     }
 
-    pub fn letter(self, buffer: &mut [u8; BUFFER], before: u8, b: u8) -> Sink {
+    pub(crate) fn letter(self, buffer: &mut [u8; BUFFER], before: u8, b: u8) -> Sink {
         let s = self.byte(buffer, before);
         s.byte(buffer, b)
     }
@@ -145,7 +145,7 @@ fn zeroless(x: f32) -> u32 {
 }
 
 // 0 or 1.
-pub fn digit(b: bool) -> u8 {
+pub(crate) fn digit(b: bool) -> u8 {
     if b { b'1' } else { b'0' }
 }
 
