@@ -2,10 +2,6 @@
 //
 // Standard input: which job, how many entries, and how many calls as a u32, little-endian. It prints the elapsed time that they
 // come to, or the base where entries are added, as the eight hex digits of its bits. No input: nothing is done.
-//
-// There are two such programs: `bench` makes the calls on a `Timeline`, `bench_track` on its track, with the labels beside it, as a
-// player does that names nothing while it plays. They differ in calls.rt only. They are two, since a method that is called from
-// two places of a program is compiled otherwise than one that is called from one.
 mod calls;
 mod jobs;
 

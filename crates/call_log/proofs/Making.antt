@@ -13,7 +13,7 @@ use Rattle.float32.specs.Helpers.{toBits}
 use Rattle.steps.specs.declared.Rule.{Rule}
 use Rattle.clock.specs.declared.Clock.{Clock}
 use Rattle.track.specs.declared.track.Track.{Track}
-use Rattle.track.specs.Tracks as tracks
+use Rattle.steps.specs.Slices.{over}
 use Rattle.track.specs.Updates.{repliesBad}
 use Rattle.track.specs.Calls.{Room, roomOf, TrackCall, SetTimeScale, Play, Pause, Resume, Reset, Seek, SeekAbs, Update, TrackOut, short, unless, updated, updatedWith, sent, soughtTo, trackStep, silent, movedBy, updatedBy}
 use Rattle.track.specs.declared.track.TrackMoved.{TrackMoved}
@@ -63,7 +63,7 @@ module _ (t : Track) where
 
   -- the answer of an update, and its list
   pub made-updated : (x : Float) (rs l l′ k : List ℕ) (a p : List Float) (m : TrackUpdated) → rs ≡ replies → 256 ≡ length l → 64 ≡ length k → 64 ≡ length a → 64 ≡ length p
-      → m ≡ updatedBy (trackStep t (Update x rs (length l) (roomOf k a p))) → l′ ≡ tracks.over (trackStep t (Update x rs (length l) (roomOf k a p)) .listed) l
+      → m ≡ updatedBy (trackStep t (Update x rs (length l) (roomOf k a p))) → l′ ≡ over (trackStep t (Update x rs (length l) (roomOf k a p)) .listed) l
       → Made (trackStep t (Update x replies listSize room)) (record { refusal = m .refusal; listed = m .listed; track = m .track }) l l′
   made-updated x rs l l′ k a p m d b e f g h i =
       let o : trackStep t (Update x rs (length l) (roomOf k a p)) ≡ trackStep t (Update x replies listSize room) = rw (d, ← b, room-is k a p e f g) in

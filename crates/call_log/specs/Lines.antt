@@ -9,6 +9,7 @@ use Rattle.clock.specs.declared.TimelineState.the-variants.{Idle, Playing, Paus
 
 -- ---- lines
 
+-- a line, with the numbers that it shows
 pub data Line : Type 0 where
   -- "A refused sheet .. prints `sheet` and the number only"
   Refused : ℕ → Line
@@ -34,6 +35,7 @@ sheetWord = 115 ∷ 104 ∷ 101 ∷ 101 ∷ 116 ∷ []
 abbrev pub withField : List ℕ → List ℕ → List ℕ
 withField text field = text ++ (32 ∷ field)
 
+-- a text with more fields, in turn
 abbrev pub withFields : List ℕ → List (List ℕ) → List ℕ
 withFields first fields = foldl withField first fields
 

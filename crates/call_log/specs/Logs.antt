@@ -34,6 +34,7 @@ isCut input =
 abbrev pub sheetIn : List ℕ → List ℕ
 sheetIn input = take (word lengthSize input) (drop lengthSize input)
 
+-- what comes after the sheet: the calls
 abbrev pub scriptIn : List ℕ → List ℕ
 scriptIn input = drop (lengthSize + word lengthSize input) input
 
@@ -110,6 +111,7 @@ unfoldable pub numbersFrom : ℕ → ℕ → List ℕ
 numbersFrom i zero = []
 numbersFrom i (suc n) = i ∷ numbersFrom (suc i) n
 
+-- the lines of all calls of the script, on what the sheet built
 abbrev pub callLines : Track → List ℕ → List Line
 callLines k script = map (lineAt k script) (numbersFrom 0 (lineCount script))
 

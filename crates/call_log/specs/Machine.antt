@@ -8,7 +8,8 @@ use lib.ListN.{length, take, drop}
 use Rattle.refusal.specs.Refusal.{accepted}
 use Rattle.digits.specs.Digits.{over}
 use Rattle.track.specs.declared.track.Track.{Track}
-use Rattle.track.specs.Tracks as tracks
+use Rattle.steps.specs.Slices as slices
+use Rattle.track.specs.Tracks.{emptyTrack}
 use Rattle.track.specs.Calls.{TrackOut}
 use Rattle.sheet_format.specs.Words.{word}
 use Rattle.call_log.specs.declared.calls.Outcome.{Outcome}
@@ -27,7 +28,7 @@ outcomeOf o = record { refusal = o .refusal; listed = length (o .listed); track 
 -- what a call leaves in the outcome and in the lent list
 pub record Made (o : TrackOut) (r : Outcome) (old new : List ℕ) : Type 0 where
   pub answer : r ≡ outcomeOf o
-  pub list : new ≡ tracks.over (o .listed) old
+  pub list : new ≡ slices.over (o .listed) old
 
 -- ---- `open`
 
@@ -37,7 +38,7 @@ sheetRoom input = cond (ltb (length input) lengthSize || ltb maxSheet (word leng
 
 -- the log of a sheet that was refused, and of one that was accepted
 abbrev pub closedLog : Log
-closedLog = record { number = 0; logging = false; track = tracks.emptyTrack }
+closedLog = record { number = 0; logging = false; track = emptyTrack }
 
 abbrev pub newLog : Track → Log
 newLog k = record { number = 0; logging = true; track = k }
@@ -46,9 +47,11 @@ newLog k = record { number = 0; logging = true; track = k }
 unfoldable pub openLine : List ℕ → Line
 openLine input = cond (eqb (sheetNumber input) accepted) (sheetLine (trackIn input)) (Refused (sheetNumber input))
 
+-- the log that `open` hands out
 unfoldable pub openLog : List ℕ → Log
 openLog input = cond (eqb (sheetNumber input) accepted) (newLog (trackIn input)) closedLog
 
+-- the answer of `open`
 abbrev pub openedBy : List ℕ → Opened
 openedBy input = record { len = length (shown (openLine input)); refusal = sheetNumber input; log = openLog input }
 
@@ -70,13 +73,16 @@ isOver log rest = not (log .logging) || eqb (length rest) 0
 unfoldable pub nextLines : Log → List ℕ → List Line
 nextLines log rest = cond (isOver log rest) [] (callLine (counted (log .number)) (outcomeAt (log .track) rest) ∷ [])
 
+-- the log that `next` hands out
 unfoldable pub nextLog : Log → List ℕ → Log
 nextLog log rest =
     cond (isOver log rest) log (record { number = counted (log .number); logging = true; track = outcomeAt (log .track) rest .track })
 
+-- the bytes of those lines
 abbrev pub nextBytes : Log → List ℕ → List ℕ
 nextBytes log rest = shownAll (nextLines log rest)
 
+-- the answer of `next`
 abbrev pub loggedBy : Log → List ℕ → Logged
 loggedBy log rest = record { len = length (nextBytes log rest); log = nextLog log rest }
 

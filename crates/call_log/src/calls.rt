@@ -136,6 +136,7 @@ fn kinds() -> [u8; MAX_ENTRIES]
     [0u8; MAX_ENTRIES]
 }
 
+// Row slices of floats, with room for every entry.
 fn floats() -> [f32; MAX_ENTRIES]
     ensures { λ r. ⌜ maxEntries ≡ length r ⌝ }
 {

@@ -113,6 +113,7 @@ pub fn open(input: &[u8], line: &mut [u8; LINE]) -> Opened
     }
 }
 
+// The log of a sheet that is refused: its line, and nothing more.
 fn refuse(refusal: u8, line: &mut [u8; LINE]) -> Opened
     ensures { λ r. ⌜ r ≡ record { len = length (shown (Refused refusal)); refusal = refusal; log = closedLog } ⌝ }
     ensures { λ _. ⌜ now (line .exit) ≡ lined (shown (Refused refusal)) (now (line .entry)) ⌝ }
@@ -153,6 +154,7 @@ pub fn next(log: Log, rest: &[u8], line: &mut [u8; LINE]) -> Logged
     Logged { len, log }
 }
 
+// The list that an update is lent.
 fn empty_list() -> [u8; LIST]
     ensures { λ r. ⌜ listSize ≡ length r ⌝ }
 {

@@ -40,6 +40,7 @@ pub fn accepted(line: &mut [u8], track: Track) -> usize
     put_byte(line, at, b'\n')
 }
 
+// The letter of a state.
 fn state_letter(state: TimelineState) -> u8
     ensures { λ r. ⌜ r ≡ letterOf state ⌝ }
 {

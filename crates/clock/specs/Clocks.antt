@@ -6,12 +6,14 @@ use Rattle.clock.specs.declared.Clock.{Clock}
 use Rattle.clock.specs.declared.TimelineState.{TimelineState}
 use Rattle.clock.specs.declared.TimelineState.the-variants.{Idle, Playing, Paused, Completed}
 
+-- `self.state == Playing`
 abbrev pub isPlaying : TimelineState → Bool
 isPlaying Idle = false
 isPlaying Playing = true
 isPlaying Paused = false
 isPlaying Completed = false
 
+-- `self.state == Completed`: `is_complete`
 abbrev pub isCompleted : TimelineState → Bool
 isCompleted Idle = false
 isCompleted Playing = false
@@ -22,6 +24,7 @@ isCompleted Completed = true
 abbrev pub newClock : Clock
 newClock = record { elapsed = zeroF; state = Idle; «time_scale» = oneF; «complete_fired» = false }
 
+-- the clock in another state
 unfoldable pub withState : Clock → TimelineState → Clock
 withState c s = record { elapsed = c .elapsed; state = s; «time_scale» = c .«time_scale»; «complete_fired» = c .«complete_fired» }
 
@@ -41,6 +44,7 @@ started c = cond (isCompleted (c .state)) (cleared c) c
 unfoldable pub playState : Float → TimelineState
 playState base = cond (eq base zeroF) Completed Playing
 
+-- the clock after `play`, in a timeline with this base
 unfoldable pub played : Clock → Float → Clock
 played c base = withState (started c) (playState base)
 
@@ -51,6 +55,7 @@ pausedState Playing = Paused
 pausedState Paused = Paused
 pausedState Completed = Completed
 
+-- the clock after `pause`
 unfoldable pub paused : Clock → Clock
 paused c = withState c (pausedState (c .state))
 
@@ -61,6 +66,7 @@ resumedState Playing = Playing
 resumedState Paused = Playing
 resumedState Completed = Completed
 
+-- the clock after `resume`
 unfoldable pub resumed : Clock → Clock
 resumed c = withState c (resumedState (c .state))
 

@@ -23,6 +23,7 @@ pub struct Clock {
     pub complete_fired: bool,
 }
 
+// Whether it is advancing.
 pub fn is_playing(state: TimelineState) -> bool
     ensures { λ r. ⌜ r ≡ isPlaying state ⌝ }
 {
@@ -34,6 +35,7 @@ pub fn is_playing(state: TimelineState) -> bool
     }
 }
 
+// Whether it has come to its end.
 pub fn is_completed(state: TimelineState) -> bool
     ensures { λ r. ⌜ r ≡ isCompleted state ⌝ }
 {
@@ -45,6 +47,7 @@ pub fn is_completed(state: TimelineState) -> bool
     }
 }
 
+// What `pause` makes of a state.
 fn pause_state(state: TimelineState) -> TimelineState
     ensures { λ r. ⌜ r ≡ pausedState state ⌝ }
 {
@@ -56,6 +59,7 @@ fn pause_state(state: TimelineState) -> TimelineState
     }
 }
 
+// What `resume` makes of a state.
 fn resume_state(state: TimelineState) -> TimelineState
     ensures { λ r. ⌜ r ≡ resumedState state ⌝ }
 {
@@ -79,6 +83,7 @@ fn unend(state: TimelineState) -> TimelineState
     }
 }
 
+// What `play` makes of any state: there is nothing to play where the base is 0.
 fn play_state(base: f32) -> TimelineState
     ensures { λ r. ⌜ r ≡ playState base ⌝ }
 {
@@ -89,6 +94,7 @@ fn play_state(base: f32) -> TimelineState
     }
 }
 
+// What a seek that comes to elapsed, in a run of this length, makes of a state.
 fn seek_state(total: f32, elapsed: f32, state: TimelineState) -> TimelineState
     ensures { λ r. ⌜ r ≡ seekState total elapsed state ⌝ }
 {
@@ -116,6 +122,7 @@ pub fn seek_to(total: f32, secs: f32) -> f32
 }
 
 impl Clock {
+    // The clock in another state.
     fn with_state(self, state: TimelineState) -> Clock
         ensures { λ r. ⌜ r ≡ withState self state ⌝ }
     {

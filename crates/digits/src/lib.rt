@@ -75,6 +75,7 @@ fn write_digits(n: usize, base: usize, width: usize, out: &mut [u8], at: usize)
     }
 }
 
+// The ASCII code of a digit.
 fn code_of(digit: u8) -> u8
     requires { ⌜ digit < 16 ⌝ }
     ensures { λ r. ⌜ r ≡ codeOf digit ⌝ }

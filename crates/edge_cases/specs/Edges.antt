@@ -38,6 +38,7 @@ stateNumber Playing = 1
 stateNumber Paused = 2
 stateNumber Completed = 3
 
+-- what the outcome of the last call answers to the question
 unfoldable pub answer : Question → Out → List ℕ
 answer state o = stateNumber (o .timeline .track .clock .state) ∷ []
 answer elapsed o = toBits (o .timeline .track .clock .elapsed) ∷ []
@@ -49,6 +50,7 @@ answer starts o = map (λ (e : Entry). toBits (e .start)) (live (o .timeline .tr
 answer kinds o = map (λ (r : Row). r .kind) (o .rows)
 answer listed o = o .listed
 
+-- the two lists have the same numbers
 unfoldable pub sameNumbers : List ℕ → List ℕ → Bool
 sameNumbers [] [] = true
 sameNumbers [] (y ∷ ys) = false
@@ -61,6 +63,7 @@ edgeHolds (panel cs c q l) = sameNumbers (answer q (step (after empty cs) c)) l
 edgeHolds (group cs bits) = eqb (toBits (groupDuration (groupOf (after empty cs)))) bits
 edgeHolds (delay k) = caseHolds k
 
+-- of every edge
 unfoldable pub allHold : List Edge → Bool
 allHold [] = true
 allHold (e ∷ es) = edgeHolds e && allHold es
@@ -77,6 +80,7 @@ fourF = ofBits binary32 0x40800000
 abbrev minusFiveF : Float
 minusFiveF = ofBits binary32 0xc0a00000
 
+-- row slices that have room for every entry
 abbrev rooms : Room
 rooms = record { kinds = 64; amounts = 64; places = 64 }
 
@@ -90,6 +94,7 @@ b = 98 ∷ []
 abbrev x : List ℕ
 x = 120 ∷ []
 
+-- `play`, with room enough
 abbrev play : Call
 play = On (Play rooms)
 
@@ -105,6 +110,7 @@ two = Add a Start twoF
 abbrev pair : List Call → List Call
 pair cs = Add a Start zeroF ∷ Add b Start twoF ∷ cs
 
+-- the panels that play, each with its sentence; a call, what is asked, and the answer
 unfoldable pub panels : List Edge
 panels =
     -- "Empty: `play` gives Completed; progress 1.0."

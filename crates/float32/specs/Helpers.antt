@@ -14,6 +14,7 @@ zeroF = ofBits binary32 0
 abbrev pub oneF : Float
 oneF = ofBits binary32 0x3f800000
 
+-- `f32::INFINITY`
 abbrev pub infinityF : Float
 infinityF = inf false
 

@@ -15,15 +15,19 @@ use Rattle.float_cases.specs.declared.question.Answer.{Answer}
 
 -- ---- answers
 
+-- to a question that there is not
 abbrev pub unknown : Answer
 unknown = record { refusal = 255; bits = 0 }
 
+-- a number
 abbrev pub number : ℕ → Answer
 number n = record { refusal = 0; bits = n }
 
+-- true is 1, false is 0
 abbrev pub truth : Bool → Answer
 truth b = cond b (number 1) (number 0)
 
+-- the bits of a float, the sign of a zero included
 abbrev pub exact : Float → Answer
 exact x = number (toBits x)
 
@@ -31,6 +35,7 @@ exact x = number (toBits x)
 abbrev pub zeroless : Float → Answer
 zeroless x = cond (eq x zeroF) (number 0) (exact x)
 
+-- the delay of a pattern, and by which number it is refused
 abbrev pub delayed : StaggerPattern → ℕ → Answer
 delayed pattern index = record { refusal = delayOf pattern index .refusal; bits = zeroless (delayOf pattern index .delay) .bits }
 
@@ -38,9 +43,11 @@ delayed pattern index = record { refusal = delayOf pattern index .refusal; bits 
 abbrev pub origins : List GridOrigin
 origins = TopLeft ∷ TopRight ∷ BottomLeft ∷ BottomRight ∷ Center ∷ Top ∷ Bottom ∷ Left ∷ []
 
+-- the origin with a number
 abbrev pub originOf : ℕ → GridOrigin
 originOf n = getD origins n Right
 
+-- the delay in a grid, by the number of its origin
 abbrev pub gridded : ℕ → ℕ → ℕ → Float → ℕ → Answer
 gridded cols rows origin step index = cond (ltb 8 origin) unknown (delayed (Grid cols rows (originOf origin) step) index)
 

@@ -3,7 +3,8 @@ use Prim.Native.Nat.{ℕ}
 use mathlib.Core.Path.{_≡_, ap, _∙_}
 use mathlib.Core.List.{List}
 use lib.Ieee.{Float}
-use Rattle.track.specs.Tracks.{over, Sent}
+use Rattle.track.specs.Tracks.{Sent}
+use Rattle.steps.specs.Slices.{over}
 use Rattle.timeline.specs.declared.timeline.Timeline.{Timeline}
 use Rattle.timeline.specs.declared.timeline.Moved.{Moved}
 use Rattle.timeline.specs.declared.timeline.Updated.{Updated}

@@ -25,6 +25,7 @@ pub record Covered (t : Timeline) : Type 0 where
   pub seeks : Seeks calls t
   pub sound : Invariant t
 
+-- all of it, which `claimed` carries
 pub record Claim : Type 0 where
   -- "Readers and builders hand out what such lists give"
   pub sequences : (calls : List SequenceCall) → Covered (sequenceAfter newSequence calls .inner)

@@ -39,6 +39,7 @@ groupBuilt b = record { refusal = b .refusal; group = groupOf (b .timeline) }
 abbrev pub atStart : ℕ → At
 atStart i = Start
 
+-- what `parallel` builds
 unfoldable pub parallelOf : List Float → Built
 parallelOf ds = builtBy (tooMany (length ds)) (itemCalls atStart 0 ds)
 
@@ -50,6 +51,7 @@ cursorAt ds i = foldl advance zeroF (take i ds)
 abbrev pub atCursor : List Float → ℕ → At
 atCursor ds i = Absolute (cursorAt ds i)
 
+-- what `sequence` builds
 unfoldable pub sequenceOf : List Float → Built
 sequenceOf ds = builtBy (tooMany (length ds)) (itemCalls (atCursor ds) 0 ds)
 
@@ -57,6 +59,7 @@ sequenceOf ds = builtBy (tooMany (length ds)) (itemCalls (atCursor ds) 0 ds)
 abbrev pub atDelay : StaggerPattern → ℕ → At
 atDelay p i = Absolute (delayOf p i .delay)
 
+-- what `stagger` builds
 unfoldable pub staggerOf : List Float → StaggerPattern → Built
 staggerOf ds p = builtBy (firstRefusal (delayOf p 0 .refusal) (tooMany (length ds))) (itemCalls (atDelay p) 0 ds)
 

@@ -12,7 +12,8 @@ use tween::StaggerPattern;
 ghost use mathlib.Core.Path.{_≡_};
 ghost use lib.ListN.{length};
 ghost use Rattle.clock.specs.Clocks.{isCompleted};
-ghost use Rattle.track.specs.Tracks.{progressOf, over, Sent};
+ghost use Rattle.track.specs.Tracks.{progressOf, Sent};
+ghost use Rattle.steps.specs.Slices.{over};
 ghost use Rattle.track.specs.Calls.{SetTimeScale, Play, Pause, Resume, Reset, Seek, Update, roomOf};
 ghost use Rattle.timeline.specs.Calls.{On, step, movedBy, updatedBy};
 ghost use Rattle.group.specs.Items.{firstRefusal, refusedWith, builtFrom};
@@ -243,6 +244,7 @@ impl AnimationGroup {
     }
 }
 
+// The answer of a refused builder: the empty timeline.
 fn refused_with(refusal: u8) -> GroupBuilt
     ensures { λ r. ⌜ r ≡ groupBuilt (refusedWith refusal) ⌝ }
 {
@@ -251,6 +253,7 @@ fn refused_with(refusal: u8) -> GroupBuilt
     GroupBuilt { refusal, group }
 }
 
+// The answer of an accepted one.
 fn built_from(timeline: Timeline) -> GroupBuilt
     ensures { λ r. ⌜ r ≡ groupBuilt (builtFrom timeline) ⌝ }
 {

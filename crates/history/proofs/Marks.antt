@@ -9,7 +9,8 @@ use Rattle.steps.specs.declared.Entry.{Entry}
 use Rattle.steps.specs.declared.Stepped.{Stepped}
 use Rattle.clock.specs.declared.Clock.{Clock}
 use Rattle.track.specs.declared.track.Track.{Track}
-use Rattle.track.specs.Tracks.{live, marks, over, moved}
+use Rattle.track.specs.Tracks.{live, marks, moved}
+use Rattle.steps.specs.Slices.{over}
 use Rattle.track.proofs.Written.{length-marks}
 use Rattle.history.specs.Entries.{Span, spanOf}
 

@@ -19,9 +19,11 @@ use Rattle.timeline.specs.Placements.{empty}
 use Rattle.timeline.specs.Calls.{Call, Add, AddBoxed, AddAtLabel, On, Out, step, after}
 use Rattle.history.specs.Entries.{doneMarks, SameEntries}
 
+-- the elapsed time of a timeline
 abbrev pub elapsedOf : Timeline → Float
 elapsedOf t = t .track .clock .elapsed
 
+-- its state
 abbrev pub stateOf : Timeline → TimelineState
 stateOf t = t .track .clock .state
 
@@ -70,6 +72,7 @@ ownBuild t (call ∷ calls) = keepCall (builds call && isAccepted t call) call (
 
 -- ---- noted places
 
+-- the mode that plays once, in which updates note no place
 abbrev pub isOnce : Loop → Bool
 isOnce Once = true
 isOnce (Times n) = false
@@ -122,6 +125,7 @@ goingOn Playing = Playing
 goingOn Paused = Paused
 goingOn Completed = Playing
 
+-- the absolute seek that is claimed of, with its slices
 abbrev pub seekTo : Float → Room → Call
 seekTo secs room = On (SeekAbs secs room)
 

@@ -15,6 +15,7 @@ pub record Span : Type 0 where
   pub start : Float
   pub duration : Float
 
+-- the span of an entry
 abbrev pub spanOf : Entry → Span
 spanOf e = record { start = e .start; duration = e .duration }
 

@@ -1,4 +1,4 @@
--- What holds of every timeline that calls make from the empty one. Definitions only; the proof is `kept` of proofs/Invariant.antt.
+-- What holds of every timeline that calls make from the empty one. Definitions only; the proof is `kept` of proofs/Kept.antt.
 use Prim.Native.Nat.{_≤_}
 use mathlib.Core.Path.{_≡_}
 use mathlib.Core.Bool.{false, true}
@@ -21,6 +21,7 @@ pub record SoundSpan (s : Span) : Type 0 where
   pub start : nonnegF (s .start) ≡ true
   pub duration : nonnegF (s .duration) ≡ true
 
+-- all of them
 abbrev pub AllSound : List Span → Type 0
 AllSound [] = Unit
 AllSound (s ∷ ss) = SoundSpan s × AllSound ss

@@ -10,11 +10,7 @@ use lib.ListN.{length, getD, drop, drop-of-length-le}
 use lib.Seq.{drop-cons}
 use borrow.Author.Tests.{eqb-true, eq-eqb, ne-eqb}
 use Rattle.label.specs.Label.{sameText}
-
-both-true : (a b : Bool) → (a && b) ≡ true → (a ≡ true) × (b ≡ true)
-both-true true true e = (refl, refl)
-both-true true false e = (refl, e)
-both-true false b e = (e, cc)
+use Rattle.steps.proofs.Tests.{and-true}
 
 -- the test is true: the texts are equal
 pub same-true : (xs ys : List ℕ) → sameText xs ys ≡ true → xs ≡ ys
@@ -23,7 +19,7 @@ same-true [] [] e = refl
 same-true [] (y ∷ ys) e = cc
 same-true (x ∷ xs) [] e = cc
 same-true (x ∷ xs) (y ∷ ys) e =
-    let p = both-true (eqb x y) (sameText xs ys) e in
+    let p = and-true (eqb x y) (sameText xs ys) e in
     let h = eqb-true x y (p .0) in
     let t = same-true xs ys (p .1) in
     cc

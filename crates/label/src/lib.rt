@@ -20,6 +20,7 @@ pub enum Found {
     Nothing,
 }
 
+// n, or top where that is less.
 fn at_most(n: usize, top: usize) -> usize
     ensures { λ r. ⌜ r ≡ min n top ⌝ }
 {
@@ -50,6 +51,7 @@ fn text_len(l: Label) -> usize
     at_most(l.len as usize, MAX_LABEL)
 }
 
+// Whether two texts are equal, byte by byte.
 fn same_text(a: &[u8], b: &[u8]) -> bool
     ensures { λ r. ⌜ r ≡ sameText (now (a .entry)) (now (b .entry)) ⌝ }
 {

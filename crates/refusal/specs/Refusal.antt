@@ -1,6 +1,7 @@
 -- The numbers by which a call is refused (paper 01, "Refusals"). 0 means accepted.
 use Prim.Native.Nat.{ℕ}
 
+-- no refusal
 abbrev pub accepted : ℕ
 accepted = 0
 

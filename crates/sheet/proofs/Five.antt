@@ -12,7 +12,7 @@ use Rattle.sheet_format.specs.declared.description.Placement.the-variants.{Abso
 use Rattle.sheet_format.specs.Check.{loopGood, placementGood, zerosGood}
 use Rattle.sheet_format.specs.Descriptions.{loopOf, placementOf}
 use Rattle.sheet_format.specs.Write.{modeOf, numberOf, kindOf, targetOf, secondsOf, targetGood}
-use Rattle.sheet_format.proofs.Accepted.{and-true}
+use Rattle.steps.proofs.Tests.{and-true}
 
 -- what holds of 0 to 4 holds up to 4
 five : (P : ℕ → Type 0) → P 0 → P 1 → P 2 → P 3 → P 4 → (k : ℕ) → k ≤ 4 → P k

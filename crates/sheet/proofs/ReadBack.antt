@@ -16,7 +16,8 @@ use Rattle.sheet_format.specs.Check.{headerSize, pairSize, recordSize, recordsA
 use Rattle.sheet_format.specs.Descriptions.{blankItem, itemsIn, loopOf, partOf, itemOf, itemsFrom, sheetItems, descriptionIn, cleanItem, cleaned}
 use Rattle.sheet_format.specs.Write.{modeOf, numberOf, kindOf, targetOf, secondsOf, headerBytes, textLength, pairOf, pairsOf, recordOf, recordsOf, textsOf, sheetOf, labelsGood, targetGood, targetsGood, describeNumber}
 use Rattle.sheet_format.proofs.Bytes.{length-bytes, word-bytes}
-use Rattle.sheet_format.proofs.Accepted.{and-true, Header, Accepted}
+use Rattle.sheet_format.proofs.Accepted.{Header, Accepted}
+use Rattle.steps.proofs.Tests.{and-true}
 use Rattle.sheet_format.proofs.Turns.{length-pair, length-record, length-pairs, length-records}
 use Rattle.sheet_format.proofs.Sheets.{Good, described, length-header, length-items, length-sheet}
 use Rattle.sheet.specs.Claim.{TypedItem, Typed}

@@ -17,7 +17,8 @@ use Rattle.sheet_format.specs.Check.{headerSize, pairSize, recordSize, recordsA
 use Rattle.sheet_format.specs.Descriptions.{blankItem, itemsIn, loopOf, partOf, itemOf, itemsFrom, sheetItems, descriptionIn}
 use Rattle.sheet_format.specs.Write.{headerBytes, textLength, pairOf, pairsOf, recordOf, recordsOf, textsOf, sheetOf, labelsGood, targetGood, targetsGood, describeNumber}
 use Rattle.sheet_format.proofs.Bytes.{Bytes, bytes-word}
-use Rattle.sheet_format.proofs.Accepted.{and-true, passed, in-turn, Accepted, pair-good}
+use Rattle.sheet_format.proofs.Accepted.{passed, in-turn, Accepted, pair-good}
+use Rattle.steps.proofs.Tests.{and-true}
 use Rattle.sheet.proofs.Five.{loop-back, placement-back}
 
 bytes-drop : (n : ℕ) (s : List ℕ) → Bytes s → Bytes (drop n s)

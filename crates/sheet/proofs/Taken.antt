@@ -25,7 +25,8 @@ use Rattle.sheet_format.specs.declared.description.Description.{Description}
 use Rattle.sheet_format.specs.Check.{headerSize, recordsAt, countIn, checkNumber}
 use Rattle.sheet_format.specs.Descriptions.{itemsIn, descriptionIn}
 use Rattle.sheet_format.specs.Write.{labelsGood}
-use Rattle.sheet_format.proofs.Accepted.{and-true, accepted-sheet}
+use Rattle.sheet_format.proofs.Accepted.{accepted-sheet}
+use Rattle.steps.proofs.Tests.{and-true}
 use Rattle.sheet.specs.Build.{noItem, atOf, placedCall, callAt, callsFrom, callsOf, readCalls}
 use Rattle.sheet.specs.Claim.{AllAccepted}
 use Rattle.sheet.proofs.Rewrite.{length-itemsFrom, labels-good, items-same}

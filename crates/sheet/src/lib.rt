@@ -102,6 +102,7 @@ fn add_item(timeline: Timeline, items: [Item; MAX_ENTRIES], n: usize, item: Item
     }
 }
 
+// n, or top where that is less.
 fn at_most(n: usize, top: usize) -> usize
     ensures { λ r. ⌜ r ≡ min n top ⌝ }
 {

@@ -11,12 +11,7 @@ use Rattle.steps.specs.Times.{maxEntries}
 use Rattle.label.specs.Label.{maxLabel}
 use Rattle.sheet_format.specs.Words.{byteAt, word}
 use Rattle.sheet_format.specs.Check.{headerSize, recordsAt, labelsAt, unless, inTurn, countIn, loopGood, headerNumber, offsetIn, lengthIn, pairGood, pairsNumber, recordsNumber, checkNumber}
-
--- both of two
-pub and-true : (a b : Bool) → (a && b) ≡ true → (a ≡ true) × (b ≡ true)
-and-true true true e = (refl, refl)
-and-true true false e = (refl, e)
-and-true false b e = (e, cc)
+use Rattle.steps.proofs.Tests.{and-true}
 
 -- a check that does not refuse was passed, and so were those after it
 pub passed : (good : Bool) (number next : ℕ) → unless good (suc number) next ≡ 0 → (good ≡ true) × (next ≡ 0)

@@ -19,7 +19,7 @@ use Rattle.sheet_format.specs.Check.{pairSize, recordSize, lengthIn, pai
 use Rattle.sheet_format.specs.Descriptions.{itemOf, itemsFrom}
 use Rattle.sheet_format.specs.Write.{textLength, targetOf, pairOf, pairsOf, recordOf, recordsOf, textsOf, labelsGood, targetGood, targetsGood}
 use Rattle.sheet_format.proofs.Bytes.{length-bytes}
-use Rattle.sheet_format.proofs.Accepted.{and-true}
+use Rattle.steps.proofs.Tests.{and-true}
 
 module _ (n i : ℕ) where
   -- one more turn is left, or none

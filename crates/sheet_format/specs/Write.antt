@@ -79,6 +79,7 @@ unfoldable pub recordOf : Item → List ℕ
 recordOf x =
     (kindOf (x .at) ∷ targetOf (x .at) ∷ 0 ∷ 0 ∷ []) ++ (bytesOf 4 (secondsOf (x .at)) ++ bytesOf 4 (x .duration))
 
+-- the records of entries, in turn
 unfoldable pub recordsOf : List Item → List ℕ
 recordsOf [] = []
 recordsOf (x ∷ xs) = recordOf x ++ recordsOf xs
@@ -108,6 +109,7 @@ targetGood n End = true
 targetGood n (Labeled k) = ltb k n
 targetGood n (Offset s) = true
 
+-- of every entry
 unfoldable pub targetsGood : ℕ → List Item → Bool
 targetsGood n [] = true
 targetsGood n (x ∷ xs) = targetGood n (x .at) && targetsGood n xs

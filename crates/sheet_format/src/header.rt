@@ -18,12 +18,14 @@ ghost use Rattle.sheet_format.specs.Check.{headerSize, recordsAt, labels
 ghost use Rattle.sheet_format.specs.Descriptions.{loopOf};
 ghost use Rattle.sheet_format.specs.Write.{modeOf, numberOf, headerBytes};
 
+// Bytes of the header, of a pair and of a record.
 pub const HEADER_SIZE: usize = 12;
 
 pub const PAIR_SIZE: usize = 4;
 
 pub const RECORD_SIZE: usize = 12;
 
+// The one version that there is.
 const VERSION: u8 = 1;
 
 // Where the records of n entries start.
@@ -58,6 +60,7 @@ fn loop_good(mode: u8, number: u32) -> bool
     number == 0
 }
 
+// The number by which the header is refused; where it is accepted, all pairs and records are in the sheet.
 pub fn check_header(sheet: &[u8]) -> u8
     ensures { λ r. ⌜ r ≡ headerNumber (now (sheet .entry)) ⌝ }
 {
@@ -102,6 +105,7 @@ pub fn loop_of(mode: u8, number: u32) -> Loop
     Loop::PingPongTimes(number)
 }
 
+// The byte of a loop mode.
 fn mode_of(looping: Loop) -> u8
     ensures { λ r. ⌜ r ≡ modeOf looping ⌝ }
 {
@@ -114,6 +118,7 @@ fn mode_of(looping: Loop) -> u8
     }
 }
 
+// The number of a loop mode; 0 where it has none.
 fn number_of(looping: Loop) -> u32
     ensures { λ r. ⌜ r ≡ numberOf looping ⌝ }
 {
@@ -126,6 +131,7 @@ fn number_of(looping: Loop) -> u32
     }
 }
 
+// Writes the header.
 pub fn put_header(room: &mut [u8], n: u8, looping: Loop, scale: u32)
     requires { ⌜ headerSize ≤ length (now room) ⌝ }
     ensures { λ _. ⌜ now (room .exit) ≡ over (headerBytes n looping scale) 0 (now (room .entry)) ⌝ }

@@ -72,6 +72,7 @@ pub fn part_at(sheet: &[u8], at: usize) -> &[u8]
     &sheet[start..end]
 }
 
+// n, or top where that is less.
 fn at_most(n: usize, top: usize) -> usize
     ensures { λ r. ⌜ r ≡ min n top ⌝ }
 {
@@ -104,6 +105,7 @@ pub fn put_pairs(room: &mut [u8], items: [Item; MAX_ENTRIES], n: usize)
     }
 }
 
+// Writes the pair of a label: where it starts, and how long it is.
 fn put_pair(room: &mut [u8], at: usize, place: usize, len: usize)
     requires { ⌜ (at + pairSize ≤ length (now room)) × (place < 65536) × (len < 65536) ⌝ }
     ensures { λ _. ⌜ now (room .exit) ≡ over (pairOf place len) at (now (room .entry)) ⌝ }

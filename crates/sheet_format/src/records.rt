@@ -67,6 +67,7 @@ fn check_record(sheet: &[u8], at: usize, n: usize) -> u8
     ACCEPTED
 }
 
+// The records of n entries, in turn.
 pub fn check_records(sheet: &[u8], n: usize) -> u8
     requires { ⌜ (n ≤ maxEntries) × (labelsAt n ≤ length (now sheet)) ⌝ }
     ensures { λ r. ⌜ r ≡ recordsNumber n n (drop (recordsAt n) (now (sheet .entry))) ⌝ }
@@ -103,6 +104,7 @@ pub fn placement_of(kind: u8, target: u8, seconds: u32) -> Placement
     Placement::Offset(seconds)
 }
 
+// The byte of a placement.
 fn kind_of(at: Placement) -> u8
     ensures { λ r. ⌜ r ≡ kindOf at ⌝ }
 {
@@ -115,6 +117,7 @@ fn kind_of(at: Placement) -> u8
     }
 }
 
+// The entry that a placement names; 0 where it names none.
 fn target_of(at: Placement) -> usize
     ensures { λ r. ⌜ r ≡ targetOf at ⌝ }
 {
@@ -127,6 +130,7 @@ fn target_of(at: Placement) -> usize
     }
 }
 
+// The seconds bits of a placement; 0 where it has none.
 fn seconds_of(at: Placement) -> u32
     ensures { λ r. ⌜ r ≡ secondsOf at ⌝ }
 {
@@ -139,6 +143,7 @@ fn seconds_of(at: Placement) -> u32
     }
 }
 
+// Writes an entry's record.
 fn put_record(room: &mut [u8], at: usize, item: Item)
     requires { ⌜ (at + recordSize ≤ length (now room)) × (targetOf (item .at) < 256) ⌝ }
     ensures { λ _. ⌜ now (room .exit) ≡ over (recordOf item) at (now (room .entry)) ⌝ }

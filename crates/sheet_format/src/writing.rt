@@ -32,6 +32,7 @@ pub struct Written {
     pub len: usize,
 }
 
+// Whether a label is not too long.
 fn label_good(l: Label) -> bool
     ensures { λ r. ⌜ r ≡ leb (l .len) maxLabel ⌝ }
 {
@@ -55,6 +56,7 @@ fn labels_good(items: [Item; MAX_ENTRIES], n: usize) -> bool
     true
 }
 
+// Whether a placement names one of the n entries, where it names one.
 fn target_good(n: usize, at: Placement) -> bool
     ensures { λ r. ⌜ r ≡ targetGood n at ⌝ }
 {

@@ -1,3 +1,4 @@
 pub mod Tests
+pub mod Inside
 pub mod Lists
 pub mod KindBound

@@ -1,6 +1,6 @@
 -- Definitions that go by tests, at the outcome of the tests.
 use mathlib.Core.Path.{_≡_, refl}
-use mathlib.Core.Bool.{Bool, true, false, cond, _||_, _&&_}
+use mathlib.Core.Bool.{Bool, true, false, cond, _||_, _&&_, false≢true}
 
 module _ {A : Type 0} where
   -- the test passed
@@ -30,3 +30,8 @@ and-left a b p = rw p
 
 pub and-right : (a b : Bool) → a ≡ true → b ≡ false → (a && b) ≡ false
 and-right a b p q = rw (p, q)
+
+-- each of two, where both hold
+pub and-true : (a b : Bool) → (a && b) ≡ true → (a ≡ true) × (b ≡ true)
+and-true true b p = (refl, p)
+and-true false b p = absurd (false≢true p)

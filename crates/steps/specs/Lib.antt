@@ -1,2 +1,3 @@
 pub mod Times
 pub mod Rows
+pub mod Slices

@@ -11,9 +11,11 @@ use Rattle.steps.specs.declared.Rule.{Rule}
 use Rattle.steps.specs.declared.Rule.the-variants.{Keep, Clear, Sync, Restart}
 use Rattle.steps.specs.Times.{endAt}
 
+-- a row, of its three parts
 abbrev pub row : ℕ → Float → Float → Row
 row kind amount place = record { kind = kind; amount = amount; place = place }
 
+-- a row and the mark that it leaves
 abbrev pub stepped : Row → Bool → Stepped
 stepped r d = record { row = r; done = d }
 

@@ -1,9 +1,11 @@
 // What one entry of a timeline is sent, and the times that decide it (timeline.rs; paper 01, part 4 and "A panel").
 use tween::Loop;
 ghost use mathlib.Core.Path.{_≡_};
-ghost use mathlib.Core.Bool.{cond, _&&_, _||_};
+ghost use mathlib.Core.Bool.{true, false, not, cond, _&&_, _||_};
 ghost use Prim.Native.Nat.{_≤_};
-ghost use lib.Ieee.{binary32, rem};
+ghost use lib.Dec.{eqb};
+ghost use lib.Ieee.{binary32, sub, rem, lt, eq};
+ghost use Rattle.float32.specs.Helpers.{zeroF};
 ghost use Rattle.steps.specs.Times.{endAt, runIn, runOf, timesRun, timesLocal, pingPong, localIn, localTime};
 ghost use Rattle.steps.specs.Rows.{untouched, cleared, kindOf, tickRow, synced, tickedOver, tickedIn, ticked, resetFirst, ruled};
 
@@ -38,18 +40,21 @@ pub enum Rule {
     Restart(f32),
 }
 
+// Where an entry ends.
 pub fn end_at(e: Entry) -> f32
     ensures { λ r. ⌜ r ≡ endAt e ⌝ }
 {
     e.start + e.duration
 }
 
+// The run of n passes, or of one where n is 0.
 fn times_run(base: f32, n: u32) -> f32
     ensures { λ r. ⌜ r ≡ timesRun base n ⌝ }
 {
     base * float32::from_u32(tween::loop_mode::passes(n))
 }
 
+// The run by the mode, where the base is not 0.
 fn run_in(mode: Loop, base: f32) -> f32
     ensures { λ r. ⌜ r ≡ runIn mode base ⌝ }
 {
@@ -69,6 +74,7 @@ pub fn run_of(mode: Loop, base: f32) -> f32
     if base == 0.0 { 0.0 } else { run_in(mode, base) }
 }
 
+// The local time in Times: at the end of the run, the base.
 fn times_local(base: f32, n: u32, elapsed: f32) -> f32
     ensures { λ r. ⌜ r ≡ timesLocal base n elapsed ⌝ }
 {
@@ -80,12 +86,14 @@ fn times_local(base: f32, n: u32, elapsed: f32) -> f32
     }
 }
 
+// The local time in Forever.
 fn remainder(base: f32, elapsed: f32) -> f32
     ensures { λ r. ⌜ r ≡ rem binary32 elapsed base ⌝ }
 {
     elapsed % base
 }
 
+// The local time there and back.
 fn ping_pong(base: f32, elapsed: f32) -> f32
     ensures { λ r. ⌜ r ≡ pingPong base elapsed ⌝ }
 {
@@ -97,6 +105,7 @@ fn ping_pong(base: f32, elapsed: f32) -> f32
     }
 }
 
+// The local time by the mode, where the base is not 0.
 fn local_in(mode: Loop, base: f32, elapsed: f32) -> f32
     ensures { λ r. ⌜ r ≡ localIn mode base elapsed ⌝ }
 {
@@ -134,6 +143,7 @@ fn keep_entry(e: Entry) -> Stepped
     }
 }
 
+// One reset, and no mark.
 fn reset_entry() -> Stepped
     ensures { λ r. ⌜ r ≡ cleared ⌝ }
 {
@@ -187,36 +197,42 @@ pub fn sync_entry(t: f32, e: Entry) -> Stepped
     }
 }
 
+// The weight, where it is set.
 fn bit(set: bool, weight: u8) -> u8
     ensures { λ r. ⌜ (r ≡ cond set weight 0) × (r ≤ weight) ⌝ }
 {
     if set { weight } else { 0 }
 }
 
+// The number of resets (here 0 or 1), plus 4 for an update, plus 8 for a seek.
 fn kind_of(reset: bool, update: bool, seek: bool) -> u8
     ensures { λ r. ⌜ r ≡ kindOf reset update seek ⌝ }
 {
     bit(reset, 1) + bit(update, 4) + bit(seek, 8)
 }
 
+// x or y.
 fn pick(choice: bool, x: f32, y: f32) -> f32
     ensures { λ r. ⌜ r ≡ cond choice x y ⌝ }
 {
     if choice { x } else { y }
 }
 
+// `a || b`
 fn either(a: bool, b: bool) -> bool
     ensures { λ r. ⌜ r ≡ (a || b) ⌝ }
 {
     if a { true } else { b }
 }
 
-fn both(a: bool, b: bool) -> bool
+// `a && b`
+pub fn both(a: bool, b: bool) -> bool
     ensures { λ r. ⌜ r ≡ (a && b) ⌝ }
 {
     if a { b } else { false }
 }
 
+// A row of a tick: what is not sent is 0.0.
 fn tick_row(reset: bool, update: bool, seek: bool, amount: f32, done: bool) -> Stepped
     ensures { λ r. ⌜ r ≡ tickRow reset update seek amount done ⌝ }
 {
@@ -233,6 +249,7 @@ fn tick_row(reset: bool, update: bool, seek: bool, amount: f32, done: bool) -> S
     }
 }
 
+// A tick from x to y of an entry that lasts; ended, where it comes to its end.
 fn tick_over(entered: bool, kept: bool, x: f32, y: f32, ended: bool, reply: u8) -> Stepped
     ensures { λ r. ⌜ r ≡ tickedOver entered kept x y ended reply ⌝ }
 {
@@ -242,6 +259,7 @@ fn tick_over(entered: bool, kept: bool, x: f32, y: f32, ended: bool, reply: u8) 
     tick_row(entered, update, ended, y - x, done)
 }
 
+// A tick of an entry that has started; entered, where the tick starts it.
 fn tick_in(prev: f32, next: f32, e: Entry, reply: u8, entered: bool) -> Stepped
     ensures { λ r. ⌜ r ≡ tickedIn prev next e reply entered ⌝ }
 {
@@ -262,21 +280,49 @@ fn tick_in(prev: f32, next: f32, e: Entry, reply: u8, entered: bool) -> Stepped
     }
 }
 
-// `tick_forward` for one entry, with its leaf's reply: 0 stopped, 1 running.
+// Whether a step forward lies inside the run of an entry that has a length: after its start and before its end.
+fn runs_inside(prev: f32, next: f32, e: Entry) -> bool
+    ensures { λ r. ⌜ r ≡ (lt (e .start) prev && (lt next (endAt e) && (lt prev next && not (eq (e .duration) zeroF)))) ⌝ }
+{
+    let start = e.start;
+    let duration = e.duration;
+    if start < prev {
+        if next < start + duration {
+            if prev < next { duration != 0.0 } else { false }
+        } else {
+            false
+        }
+    } else {
+        false
+    }
+}
+
+// The entry is updated by the whole step.
+fn tick_inside(prev: f32, next: f32, e: Entry, reply: u8) -> Stepped
+    ensures { λ r. ⌜ r ≡ tickRow false true false (sub binary32 next prev) (eqb reply 0 || e .done) ⌝ }
+{
+    let done = either(reply == 0, e.done);
+    tick_row(false, true, false, next - prev, done)
+}
+
+// `tick_forward` for one entry, with its leaf's reply: 0 stopped, 1 running. Most steps lie inside the run, so these are told first.
 pub fn tick_entry(prev: f32, next: f32, e: Entry, reply: u8) -> Stepped
     ensures { λ r. ⌜ r ≡ ticked prev next e reply ⌝ }
 {
     let start = e.start;
     if next < start {
-        reset_entry()
-    } else {
-        let from = prev <= start;
-        let to = next >= start;
-        let entered = both(from, to);
-        tick_in(prev, next, e, reply, entered)
+        return reset_entry();
     }
+    if runs_inside(prev, next, e) {
+        return tick_inside(prev, next, e, reply);
+    }
+    let from = prev <= start;
+    let to = next >= start;
+    let entered = both(from, to);
+    tick_in(prev, next, e, reply, entered)
 }
 
+// `reset`, and then synchronised.
 fn restart_entry(t: f32, e: Entry) -> Stepped
     ensures { λ r. ⌜ r ≡ resetFirst (synced t e) ⌝ }
 {

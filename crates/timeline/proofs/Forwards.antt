@@ -6,7 +6,8 @@ use lib.Ieee.{Float}
 use Rattle.track.specs.declared.track.Track.{Track}
 use Rattle.track.specs.declared.track.TrackMoved.{TrackMoved}
 use Rattle.track.specs.declared.track.TrackUpdated.{TrackUpdated}
-use Rattle.track.specs.Tracks.{over, Sent}
+use Rattle.track.specs.Tracks.{Sent}
+use Rattle.steps.specs.Slices.{over}
 use Rattle.track.specs.Calls as track
 use Rattle.track.specs.Calls.{TrackCall, trackStep}
 use Rattle.track.proofs.Sending.{Answers}

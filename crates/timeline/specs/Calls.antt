@@ -54,6 +54,7 @@ abbrev pub onTrack : Timeline → TrackOut → Out
 onTrack t o =
     record { refusal = o .refusal; timeline = withTrack t (o .track); rows = o .rows; running = o .running; completed = o .completed; listed = o .listed }
 
+-- every call: what it leaves, sends, lists, answers and refuses
 unfoldable pub step : Timeline → Call → Out
 step t (Add name at duration) = addedAt t name (resolveStart t at) duration
 step t (AddBoxed name at duration) = addedAt t name (resolveStart t at) duration

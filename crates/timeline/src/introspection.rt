@@ -23,6 +23,7 @@ pub enum Duration {
     Unbounded,
 }
 
+// What is reported: of what, how far it has come, the seconds so far, how long it is, and its state.
 pub struct AnimationIntrospection {
     pub kind: AnimationKind,
     pub progress: f32,
@@ -43,6 +44,7 @@ pub fn playback_state(state: TimelineState) -> PlaybackState
     }
 }
 
+// The duration where it is finite.
 fn known_duration(secs: f32) -> Duration
     ensures { λ r. ⌜ r ≡ knownDuration secs ⌝ }
 {

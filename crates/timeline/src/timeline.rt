@@ -1,4 +1,6 @@
-// Timelines (timeline.rs), in the Rust's order.
+// Timelines (timeline.rs), in the Rust's order. What plays is crate track's, and a call that moves it is made there: `update` and the
+// preview in update.rt, the others in track.rt. Of the Rust's private functions, crate steps has `local_time_for_elapsed` and what
+// `tick_forward` and `sync_to_elapsed` do to one entry, crate walk `entry_completion_labels_between`, crate clock the state.
 use crate::introspection::AnimationIntrospection;
 use crate::introspection::AnimationKind;
 use clock::TimelineState;
@@ -19,7 +21,8 @@ ghost use lib.ListN.{length, getD};
 ghost use Rattle.steps.specs.Times.{maxEntries};
 ghost use Rattle.label.specs.Label.{firstLike};
 ghost use Rattle.clock.specs.Clocks.{isCompleted};
-ghost use Rattle.track.specs.Tracks.{live, trackBase, trackRun, progressOf, blank, over, Sent};
+ghost use Rattle.track.specs.Tracks.{live, trackBase, trackRun, progressOf, blank, Sent};
+ghost use Rattle.steps.specs.Slices.{over};
 ghost use Rattle.track.specs.Calls.{Looping, SetTimeScale, Play, Pause, Resume, Reset, Seek, SeekAbs, Update, Preview, roomOf};
 ghost use Rattle.timeline.specs.Placements.{empty, liveLabels, startFound, namedStart, resolveStart, grown};
 ghost use Rattle.timeline.specs.Calls.{Add, AddBoxed, AddAtLabel, On, addedAt, withTrack, step, addedBy, movedBy, updatedBy};

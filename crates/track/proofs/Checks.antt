@@ -1,10 +1,10 @@
 -- The whole update and its preview: refusals 3 and 4, and then by the state.
 use Prim.Native.Nat.{ℕ, _≤_}
-use mathlib.Core.Path.{_≡_, refl, sym, _∙_}
-use mathlib.Core.Bool.{Bool, true, false, not, _||_, false≢true, true≢false}
+use mathlib.Core.Path.{_≡_, refl, sym, ap, _∙_}
+use mathlib.Core.Bool.{Bool, true, false, not, cond, _||_, false≢true, true≢false}
 use mathlib.Core.List.{List, [], map}
 use native.Mathlib.Omega.{arith}
-use borrow.Author.Tests.{le-ltb, ltb-false}
+use borrow.Author.Tests.{ltb-false}
 use lib.Dec.{ltb}
 use lib.ListN.{length, take}
 use lib.Ieee.{Float}
@@ -14,12 +14,13 @@ use Rattle.steps.specs.Rows.{ruled}
 use Rattle.clock.specs.Clocks.{isPlaying, isCompleted}
 use Rattle.track.specs.Tracks.{live, rowsOf, Sent}
 use Rattle.track.specs.Updates.{aboveOne, repliesBad, playing}
-use Rattle.track.specs.Calls.{Update, Preview, Room, roomOf, TrackOut, silent, short, fitted, rested, advancedTo, updatedIn, updated, updatedWith, previewed, trackStep, updatedBy, Answered}
+use Rattle.track.specs.Calls.{Update, Preview, roomOf, TrackOut, silent, short, fitted, rested, advancedTo, updatedIn, updated, updatedWith, previewed, trackStep, updatedBy}
 use Rattle.clock.specs.declared.TimelineState.{TimelineState}
 use Rattle.clock.specs.declared.TimelineState.the-variants.{Idle, Playing, Paused, Completed}
+use Rattle.track.specs.Courses.{checkedBy, stoppedBy}
 use Rattle.track.specs.declared.track.Track.{Track}
 use Rattle.track.specs.declared.track.TrackUpdated.{TrackUpdated}
-use Rattle.track.proofs.Updating.{refusing, passing}
+use Rattle.track.proofs.Updating.{Answered, answered, refusing, passing}
 
 -- ---- by the state
 
@@ -51,6 +52,10 @@ room-left t k a p e =
     let y = neither (ltb (length a) n) (ltb (length p) n) (x .1) in
     (ltb-false (length k) n (x .0), (ltb-false (length a) n (y .0), ltb-false (length p) n (y .1)))
 
+-- and so for as many entries as have been counted
+pub room-for : (t : Track) (k : List ℕ) (a p : List Float) (n : ℕ) → n ≡ length (live t) → short (roomOf k a p) t ≡ false → (n ≤ length k) × ((n ≤ length a) × (n ≤ length p))
+room-for t k a p n en e = rw en (room-left t k a p e)
+
 -- there are replies enough
 pub replies-left : (t : Track) (rs : List ℕ) → repliesBad rs t ≡ false → length (live t) ≤ length rs
 replies-left t rs e = ltb-false (length rs) (length (live t)) (neither (ltb (length rs) (length (live t))) (aboveOne (take (length (live t)) rs)) e .0)
@@ -59,8 +64,14 @@ replies-left t rs e = ltb-false (length rs) (length (live t)) (neither (ltb (len
 pub short-same : (t : Track) (k : List ℕ) (a p : List Float) {n : ℕ} {b : Bool} → n ≡ length (live t) → b ≡ (ltb (length k) n || (ltb (length a) n || ltb (length p) n)) → short (roomOf k a p) t ≡ b
 short-same t k a p en e = sym (rw en at e)
 
-pub bad-same : (t : Track) (rs : List ℕ) {n : ℕ} {b : Bool} → n ≡ length (live t) → b ≡ (ltb (length rs) n || aboveOne (take n rs)) → repliesBad rs t ≡ b
-bad-same t rs en e = sym (rw en at e)
+-- neither refuses
+pub checks-passed : (t : Track) (rs k : List ℕ) (a p : List Float) {n no : ℕ} → n ≡ length (live t) → no ≡ checkedBy n rs (length k) (length a) (length p) → no ≡ accepted → (short (roomOf k a p) t ≡ false) × (repliesBad rs t ≡ false)
+checks-passed t rs k a p {n} {no} en e h = go (short (roomOf k a p) t) (repliesBad rs t) refl refl (sym (rw en at e) ∙ h)
+  where
+    go : (s b : Bool) → short (roomOf k a p) t ≡ s → repliesBad rs t ≡ b → cond (short (roomOf k a p) t) rowsTooShort (cond (repliesBad rs t) badReplies accepted) ≡ accepted → (short (roomOf k a p) t ≡ false) × (repliesBad rs t ≡ false)
+    go true b es eb q = let f : ⊥ = omega (arith, rw es at q) in absurd f
+    go false true es eb q = let f : ⊥ = omega (arith, rw (es, eb) at q) in absurd f
+    go false false es eb q = (es, eb)
 
 -- ---- the answer
 
@@ -78,24 +89,21 @@ module _ (t : Track) (dt : Float) (rs l₀ k₀ : List ℕ) (a₀ p₀ : List Fl
     bad e er = passing l₀ l₀ k₀ k₀ a₀ a₀ p₀ p₀ _ _ t _ _ s (refusing _ _ t _ _ l₀ k₀ a₀ p₀ e er)
 
     module _ (g : repliesBad rs t ≡ false) where
-      accepting : (l k : List ℕ) (a p : List Float) (r : TrackUpdated) (o : TrackOut) → updated t dt rs ≡ o → Answered (fitted (length l₀) t o) r l₀ l k₀ k a₀ a p₀ p → Answered out r l₀ l k₀ k a₀ a p₀ p
+      pub accepting : (l k : List ℕ) (a p : List Float) (r : TrackUpdated) (o : TrackOut) → updated t dt rs ≡ o → Answered (fitted (length l₀) t o) r l₀ l k₀ k a₀ a p₀ p → Answered out r l₀ l k₀ k a₀ a p₀ p
       unfolding trackStep updatedWith
       accepting l k a p r o e h = passing l₀ l k₀ k a₀ a p₀ p _ _ t _ _ s (passing l₀ l k₀ k a₀ a p₀ p _ _ t _ _ g (rw e h))
 
-      -- while Playing
-      pub plays-on : (l k : List ℕ) (a p : List Float) {b : Bool} {r : TrackUpdated} → b ≡ isPlaying (t .clock .state) → b ≡ true
-          → Answered (fitted (length l₀) t (advancedTo t (playing t dt rs))) r l₀ l k₀ k a₀ a p₀ p → Answered out r l₀ l k₀ k a₀ a p₀ p
-      unfolding updated
-      plays-on l k a p eb e h = accepting l k a p _ _ (plays t dt rs (t .clock .state) (sym eb ∙ e)) h
+  -- refused by the one or the other
+  pub unchecked : {n no : ℕ} → n ≡ length (live t) → no ≡ checkedBy n rs (length k₀) (length a₀) (length p₀) → (no ≡ accepted → ⊥) → Answered out (answered t (stoppedBy no) (t .clock) (t .entries)) l₀ l₀ k₀ k₀ a₀ a₀ p₀ p₀
+  unchecked {n} {no} en e h = go (short (roomOf k₀ a₀ p₀) t) (repliesBad rs t) refl refl (rw en at e)
+    where
+      stops : (m : ℕ) → no ≡ m → answered t (stoppedBy no) (t .clock) (t .entries) ≡ updatedBy (silent m t)
+      stops m p = ap (λ (x : ℕ). answered t (stoppedBy x) (t .clock) (t .entries)) p
 
-      -- else
-      pub rests-on : (k : List ℕ) (a p : List Float) {b : Bool} {r : TrackUpdated} → b ≡ isPlaying (t .clock .state) → b ≡ false
-          → r ≡ updatedBy (rested t (not (isCompleted (t .clock .state)))) → Sent (rested t (not (isCompleted (t .clock .state))) .rows) k₀ k a₀ a p₀ p → Answered out r l₀ l₀ k₀ k a₀ a p₀ p
-      unfolding updated rested
-      rests-on k a p eb e er rows =
-          let o = rested t (not (isCompleted (t .clock .state))) in
-          accepting l₀ k a p _ o (rests t dt rs (t .clock .state) (sym eb ∙ e))
-          (passing l₀ l₀ k₀ k a₀ a p₀ p _ _ t o _ (le-ltb (length l₀) 0 (omega arith)) (record { answer = er; rows = rows; list = refl }))
+      go : (s b : Bool) → short (roomOf k₀ a₀ p₀) t ≡ s → repliesBad rs t ≡ b → no ≡ cond (short (roomOf k₀ a₀ p₀) t) rowsTooShort (cond (repliesBad rs t) badReplies accepted) → Answered out (answered t (stoppedBy no) (t .clock) (t .entries)) l₀ l₀ k₀ k₀ a₀ a₀ p₀ p₀
+      go true b es eb q = too-short es (stops rowsTooShort (rw es at q))
+      go false true es eb q = bad es eb (stops badReplies (rw (es, eb) at q))
+      go false false es eb q = absurd (h (rw (es, eb) at q))
 
 -- ---- the preview
 

@@ -1,7 +1,7 @@
 -- The replies: a loop that looks for one above 1, and that no row depends on them.
 use Prim.Native.Nat.{ℕ, _+_, _<_, _≤_}
-use mathlib.Core.Path.{_≡_, refl, subst}
-use mathlib.Core.Bool.{Bool, true, false, _||_, cond}
+use mathlib.Core.Path.{_≡_, refl}
+use mathlib.Core.Bool.{Bool, true, false, cond}
 use mathlib.Core.List.{List, [], _∷_}
 use native.Mathlib.Numerals.{add-one}
 use native.Mathlib.Omega.{arith}
@@ -14,9 +14,8 @@ use lib.Ieee.{Float, lt, eq}
 use Rattle.float32.specs.Helpers.{zeroF}
 use Rattle.steps.specs.Rows.{ticked, tickedIn, tickedOver, tickRow}
 use Rattle.steps.specs.declared.Entry.{Entry}
-use Rattle.steps.specs.declared.Row.{Row}
 use Rattle.steps.specs.declared.Stepped.{Stepped}
-use Rattle.track.specs.Tracks.{rowsOf, Sent}
+use Rattle.track.specs.Tracks.{rowsOf}
 
 -- ---- one above 1
 
@@ -64,6 +63,3 @@ pub ticks-rows : (prev next : Float) (es : List Entry) (rs rs′ : List ℕ) →
 unfolding ticks
 ticks-rows prev next [] rs rs′ = refl
 ticks-rows prev next (e ∷ es) rs rs′ = rw (ticked-row prev next e (getD rs 0 1) (getD rs′ 0 1), ticks-rows prev next es (drop 1 rs) (drop 1 rs′))
-
-pub sent-any : (prev next : Float) (es : List Entry) (rs rs′ : List ℕ) (k₀ k : List ℕ) (a₀ a p₀ p : List Float) → Sent (rowsOf (ticks prev next es rs)) k₀ k a₀ a p₀ p → Sent (rowsOf (ticks prev next es rs′)) k₀ k a₀ a p₀ p
-sent-any prev next es rs rs′ k₀ k a₀ a p₀ p h = subst (λ (xs : List Row). Sent xs k₀ k a₀ a p₀ p) (ticks-rows prev next es rs rs′) h

@@ -10,11 +10,12 @@ use lib.ListN.{length, getD, drop, length-append, drop-of-length-le}
 use lib.Seq.{drop-cons, sets, length-sets}
 use lib.Ieee.{Float}
 use Rattle.walk.proofs.Cycle.{store-run, store-all}
+use Rattle.walk.specs.Completions.{keep}
 use Rattle.steps.specs.Rows.{ticked}
 use Rattle.steps.specs.declared.Entry.{Entry}
 use Rattle.steps.specs.declared.Stepped.{Stepped}
-use Rattle.track.specs.Tracks.{over}
-use Rattle.track.specs.Updates.{ticks, keepIf, newlyDone}
+use Rattle.steps.specs.Slices.{over}
+use Rattle.track.specs.Updates.{ticks, newlyDone}
 use Rattle.track.proofs.Written.{noEntry, noStep}
 
 -- ---- the steps
@@ -37,9 +38,19 @@ module _ (prev next : Float) where
   pub turn-at : (es : List Entry) (rs : List ℕ) (i : ℕ) → i < length es → i < length rs → (e : Entry) (s : Stepped) → e ≡ getD es i noEntry → s ≡ ticked prev next e (getD rs i 0) → s ≡ getD (ticks prev next es rs) i noStep
   turn-at es rs i h k e s ee e′ = rw (e′, ee) (sym (ticks-at es rs i h k))
 
+  -- where no reply is looked at
+  pub silent-turn : (es : List Entry) (i : ℕ) → i < length es → (e : Entry) (s : Stepped) → e ≡ getD es i noEntry → s ≡ ticked prev next e 1 → s ≡ getD (ticks prev next es []) i noStep
+  unfolding ticks
+  silent-turn es i h e s ee e′ = rw (e′, ee) (sym (go es i h))
+    where
+      go : (xs : List Entry) (j : ℕ) → j < length xs → getD (ticks prev next xs []) j noStep ≡ ticked prev next (getD xs j noEntry) 1
+      go [] j k = absurd (not-suc-le-zero k)
+      go (x ∷ xs) zero k = refl
+      go (x ∷ xs) (suc j) k = go xs j (le-of-suc-le-suc k)
+
 -- ---- the entries newly done
 
-keep-most : (b : Bool) (i n : ℕ) (xs : List ℕ) → length xs ≤ n → length (keepIf b i xs) ≤ suc n
+keep-most : (b : Bool) (i n : ℕ) (xs : List ℕ) → length xs ≤ n → length (keep b i xs) ≤ suc n
 keep-most true i n xs h = omega arith
 keep-most false i n xs h = omega arith
 
@@ -50,7 +61,7 @@ newly-most i [] ss = omega arith
 newly-most i (e ∷ es) [] = omega arith
 newly-most i (e ∷ es) (s ∷ ss) = keep-most (not (e .done) && s .done) i (length es) (newlyDone (suc i) es ss) (newly-most (suc i) es ss)
 
-keep-first : (b : Bool) (i : ℕ) (xs : List ℕ) → keepIf b i xs ≡ keepIf b i [] ++ xs
+keep-first : (b : Bool) (i : ℕ) (xs : List ℕ) → keep b i xs ≡ keep b i [] ++ xs
 keep-first true i xs = refl
 keep-first false i xs = refl
 
@@ -68,7 +79,7 @@ module _ (es : List Entry) (ss : List Stepped) where
   rest-end i h = rw (drop-of-length-le es h)
 
   -- the entry i itself, if it is newly done, and then the others
-  pub rest-turn : length ss ≡ length es → (i : ℕ) (b : Bool) → i < length es → b ≡ (not (getD es i noEntry .done) && getD ss i noStep .done) → rest es ss i ≡ keepIf b i [] ++ rest es ss (i + 1)
+  pub rest-turn : length ss ≡ length es → (i : ℕ) (b : Bool) → i < length es → b ≡ (not (getD es i noEntry .done) && getD ss i noStep .done) → rest es ss i ≡ keep b i [] ++ rest es ss (i + 1)
   unfolding rest newlyDone
   rest-turn l i b h e =
       let k : i < length ss = omega arith in
@@ -91,18 +102,18 @@ module _ (es : List Entry) (ss : List Stepped) (l₀ : List ℕ) where
 
   module _ (each : length ss ≡ length es) (l : List ℕ) (k i : ℕ) (inv : Listing es ss l₀ l k i) (h : i < length es) (b : Bool) (newly : b ≡ (not (getD es i noEntry .done) && getD ss i noStep .done)) where
     -- there is room for the entry's number
-    pub room-listed : k + length (keepIf b i []) ≤ length l
+    pub room-listed : k + length (keep b i []) ≤ length l
     room-listed = omega (arith, simp length-append at (ap length (rest-turn es ss each i b h newly)))
 
     -- one turn
-    pub one-listed : (l′ : List ℕ) (k′ : ℕ) → l′ ≡ sets l k (keepIf b i []) → k′ ≡ k + length (keepIf b i []) → Listing es ss l₀ l′ k′ (i + 1)
+    pub one-listed : (l′ : List ℕ) (k′ : ℕ) → l′ ≡ sets l k (keep b i []) → k′ ≡ k + length (keep b i []) → Listing es ss l₀ l′ k′ (i + 1)
     one-listed l′ k′ el ek =
         let turn = rest-turn es ss each i b h newly in
         record {
-          same = ap length el ∙ length-sets l k (keepIf b i []) ∙ inv .same;
+          same = ap length el ∙ length-sets l k (keep b i []) ∙ inv .same;
           fits = inv .fits;
           count = omega (arith, simp length-append at (ap length turn));
-          stores = store-run l k l′ k′ (keepIf b i []) (rest es ss (i + 1)) (rest es ss i) el ek turn ∙ inv .stores;
+          stores = store-run l k l′ k′ (keep b i []) (rest es ss (i + 1)) (rest es ss i) el ek turn ∙ inv .stores;
         }
 
   -- after the last turn

@@ -1,7 +1,7 @@
 -- What an update answers, by how it goes: refused, or come to its end.
 use Prim.Native.Nat.{ℕ}
 use mathlib.Core.Path.{_≡_, refl, sym, ap, subst⁻¹, _∙_}
-use mathlib.Core.Bool.{Bool, true, false, not, cond, true≢false, false≢true}
+use mathlib.Core.Bool.{Bool, true, false, not, _&&_, cond, true≢false, false≢true}
 use mathlib.Core.List.{List, [], map}
 use native.Mathlib.Omega.{arith}
 use borrow.Author.Tests.{leb-true, leb-false, lt-ltb, le-ltb}
@@ -18,17 +18,46 @@ use Rattle.steps.specs.declared.Rule.the-variants.{Sync}
 use Rattle.steps.specs.Times.{localTime}
 use Rattle.steps.specs.Rows.{ruled}
 use Rattle.walk.specs.Completions.{completionsBetween}
-use Rattle.walk.specs.declared.Counted.{Counted}
 use Rattle.walk.specs.Answers.{roomFor, Listed}
 use Rattle.walk.specs.declared.Counted.the-variants.{Within, Over}
-use Rattle.clock.specs.Clocks.{isPlaying, isCompleted, nextElapsed}
-use Rattle.track.specs.Tracks.{live, trackBase, rowsOf, moved, over, Sent}
+use Rattle.clock.specs.Clocks.{nextElapsed, advancedClock}
+use Rattle.track.specs.Tracks.{live, trackBase, rowsOf, moved, Sent}
+use Rattle.steps.specs.Slices.{over}
 use Rattle.track.specs.Updates.{ticks, newlyDone, Advance, isOnce, advanced, tickedTo, syncedTo, resting, playing}
-use Rattle.track.specs.Calls.{TrackOut, silent, unless, advancedTo, fitted, updatedIn, rested, updatedBy, finished, Answered}
-use Rattle.clock.specs.declared.TimelineState.{TimelineState}
-use Rattle.clock.specs.declared.TimelineState.the-variants.{Idle, Playing, Paused, Completed}
+use Rattle.track.specs.Calls.{TrackOut, silent, unless, withClock, advancedTo, fitted, updatedBy}
+use Rattle.clock.specs.declared.TimelineState.the-variants.{Playing}
 use Rattle.track.specs.declared.track.Track.{Track}
 use Rattle.track.specs.declared.track.TrackUpdated.{TrackUpdated}
+use Rattle.track.specs.declared.update.Answer.{Answer}
+use Rattle.clock.specs.declared.Clock.{Clock}
+
+-- the answer of an update that has sent its steps to the track k and comes to elapsed
+abbrev pub finished : Track → Float → Bool → ℕ → TrackUpdated
+finished k elapsed ended listed =
+    record {
+      refusal = accepted;
+      running = not ended;
+      completed = ended && not (k .clock .«complete_fired»);
+      listed = listed;
+      track = withClock k (advancedClock (k .clock) elapsed ended);
+    }
+
+-- what an update with the outcome o answers, and leaves in the lent list and the three row slices
+pub record Answered (o : TrackOut) (r : TrackUpdated) (l₀ l k₀ k : List ℕ) (a₀ a p₀ p : List Float) : Type 0 where
+  pub answer : r ≡ updatedBy o
+  pub rows : Sent (o .rows) k₀ k a₀ a p₀ p
+  pub list : l ≡ over (o .listed) l₀
+
+-- the answer x, with this clock and these entries
+abbrev pub answered : Track → Answer → Clock → List Entry → TrackUpdated
+answered t x c es =
+    record {
+      refusal = x .refusal;
+      running = x .running;
+      completed = x .completed;
+      listed = x .listed;
+      track = record { count = t .count; entries = es; clock = c; looping = t .looping };
+    }
 
 -- ---- refused or not
 
@@ -107,30 +136,15 @@ module _ (t : Track) (base next : Float) (rs : List ℕ) {from to : Float} {ende
 -- ---- the other modes, by what the walk answers
 
 module _ (t : Track) (base next elapsed : Float) (ended : Bool) where
-  abbrev sync : Advance
+  abbrev pub sync : Advance
   sync = syncedTo (t .looping) (live t) base (t .clock .elapsed) next elapsed ended
 
   pub sync-steps : {time : Float} → time ≡ localTime (t .looping) base elapsed → map (ruled (Sync time)) (live t) ≡ sync .steps
   unfolding syncedTo
   sync-steps et = rw et
 
-  abbrev walked : List ℕ
+  abbrev pub walked : List ℕ
   walked = completionsBetween (t .looping) (live t) (t .clock .elapsed) next
-
-  pub sync-refused : (l l′ k : List ℕ) (a p : List Float) {w : Counted} {r : TrackUpdated} → Listed walked l l′ w → w ≡ Over → r ≡ updatedBy (silent listTooShort t)
-      → Answered (fitted (length l) t (advancedTo t sync)) r l l′ k k a a p p
-  unfolding syncedTo
-  sync-refused l l′ k a p h e er =
-      let o = listed-over walked l l′ (rw e at h) in
-      rw (o .1) (too-many t sync _ l k a p (o .0) er)
-
-  pub sync-answered : (l₀ l k₀ k : List ℕ) (a₀ a p₀ p : List Float) {w : Counted} {time : Float} {q : Track} {n : ℕ} {r : TrackUpdated} → Listed walked l₀ l w → w ≡ Within n → time ≡ localTime (t .looping) base elapsed
-      → q ≡ moved t (t .clock) (map (ruled (Sync time)) (live t)) → Sent (rowsOf (map (ruled (Sync time)) (live t))) k₀ k a₀ a p₀ p → r ≡ finished q elapsed ended n
-      → Answered (fitted (length l₀) t (advancedTo t sync)) r l₀ l k₀ k a₀ a p₀ p
-  unfolding syncedTo
-  sync-answered l₀ l k₀ k a₀ a p₀ p h e et eq rows er =
-      let o = listed-within walked l₀ l _ (rw e at h) in
-      finishing l₀ l k₀ k a₀ a p₀ p t sync _ elapsed ended _ _ (eq ∙ ap (moved t (t .clock)) (sync-steps et)) (sent-same _ _ k₀ k a₀ a p₀ p (sym (sync-steps et)) rows) refl refl (o .0) (o .1) (o .2) er
 
 -- ---- by the mode
 
@@ -179,7 +193,3 @@ module _ (t : Track) (dt : Float) (rs : List ℕ) {base : Float} (eb : base ≡ 
     pub syncs-on : {elapsed : Float} {ended : Bool} → b ≡ false → elapsed ≡ advanced (t .looping) [] base next next [] .elapsed → ended ≡ advanced (t .looping) [] base next next [] .ended
         → playing t dt rs ≡ syncedTo (t .looping) (live t) base (t .clock .elapsed) next elapsed ended
     syncs-on p e₁ e₂ = rw (e₁, e₂) (on ∙ looped (live t) base (t .clock .elapsed) next rs (t .looping) (sym eo ∙ p))
-
--- an update that comes to the same answers the same
-pub comes-to : (n : ℕ) (t : Track) (x y : Advance) (r : TrackUpdated) (l₀ l k₀ k : List ℕ) (a₀ a p₀ p : List Float) → x ≡ y → Answered (fitted n t (advancedTo t y)) r l₀ l k₀ k a₀ a p₀ p → Answered (fitted n t (advancedTo t x)) r l₀ l k₀ k a₀ a p₀ p
-comes-to n t x y r l₀ l k₀ k a₀ a p₀ p e h = subst⁻¹ (λ (z : Advance). Answered (fitted n t (advancedTo t z)) r l₀ l k₀ k a₀ a p₀ p) e h

@@ -1,19 +1,21 @@
 -- A loop that gives each entry of a track its step: what stands after i turns, and the laws that each such loop cites.
 use Prim.Native.Nat.{ℕ, zero, suc, _+_, _<_, _≤_}
-use mathlib.Core.Path.{_≡_, refl, sym, ap, _∙_}
+use mathlib.Core.Path.{_≡_, refl, sym, ap, subst, _∙_}
 use mathlib.Core.List.{List, [], _∷_, map}
-use mathlib.Core.Bool.{false}
+use mathlib.Core.Bool.{Bool, true, false, not, Bool·beq}
 use native.Mathlib.Nat.{not-suc-le-zero, le-of-suc-le-suc}
 use native.Mathlib.Omega.{arith}
 use lib.ListN.{length, getD, set, take, length-set, length-map, length-take}
+use lib.Seq.{set-getD}
 use lib.Ieee.{Float, nan}
 use Rattle.steps.specs.Times.{maxEntries}
 use Rattle.steps.specs.Rows.{row, stepped}
 use Rattle.steps.specs.declared.Entry.{Entry}
 use Rattle.steps.specs.declared.Row.{Row}
 use Rattle.steps.specs.declared.Stepped.{Stepped}
-use Rattle.steps.proofs.Lists.{front, front-more, front-length, front-at, front-all, part-at, map-at, map-map, take-own}
-use Rattle.track.specs.Tracks.{live, marked, marks, rowsOf, moved, over, Sent}
+use Rattle.steps.proofs.Lists.{front, front-more, front-at, front-all, part-at, map-at, map-map, take-own}
+use Rattle.track.specs.Tracks.{live, marked, marks, rowsOf, moved, Sent}
+use Rattle.steps.specs.Slices.{over}
 use Rattle.track.specs.declared.track.Track.{Track}
 
 -- what an index past the end of a list of entries, or of steps, reads
@@ -29,6 +31,9 @@ count-within t l = omega (arith, length-take (t .count) (t .entries))
 
 pub count-own : (t : Track) (n : ℕ) → n ≡ length (live t) → take n (t .entries) ≡ live t
 count-own t n e = rw e (take-own (t .count) (t .entries))
+
+pub own-entry : (t : Track) (i : ℕ) → i < length (live t) → getD (t .entries) i noEntry ≡ getD (live t) i noEntry
+own-entry t i h = sym (part-at (t .count) (t .entries) i noEntry h)
 
 -- each step's part of the three slices
 abbrev pub kindsOf : List Stepped → List ℕ
@@ -51,9 +56,20 @@ marks-at (x ∷ es) [] i h k = absurd (not-suc-le-zero k)
 marks-at (x ∷ es) (s ∷ ss) zero h k = refl
 marks-at (x ∷ es) (s ∷ ss) (suc i) h k = marks-at es ss i (le-of-suc-le-suc h) (le-of-suc-le-suc k)
 
+-- two marks that are not unlike are one
+pub same-mark : (d d′ : Bool) → not (Bool·beq d d′) ≡ false → d ≡ d′
+same-mark true true e = refl
+same-mark true false e = e
+same-mark false true e = sym e
+same-mark false false e = refl
+
 -- the track k with these entries
 abbrev pub withEntries : Track → List Entry → Track
 withEntries k es = record { count = k .count; entries = es; clock = k .clock; looping = k .looping }
+
+-- the track that i turns would leave
+abbrev pub left : Track → List Stepped → ℕ → Track
+left t ss i = withEntries t (front i (marks (live t) ss) (t .entries))
 
 -- after i of n turns, q is the track t, and k, a and p are the slices k₀, a₀ and p₀, with the first i steps of ss
 pub record Written (t : Track) (ss : List Stepped) (k₀ : List ℕ) (a₀ p₀ : List Float) (n : ℕ) (q : Track) (k : List ℕ) (a p : List Float) (i : ℕ) : Type 0 where
@@ -132,6 +148,22 @@ module _ (t : Track) (ss : List Stepped) (k₀ : List ℕ) (a₀ p₀ : List Flo
         places = front-more i (placesOf ss) p₀ p (s .row .place) nan (omega arith) (omega arith) (ap (λ (x : Stepped). x .row .place) e ∙ sym (map-at (λ (x : Stepped). x .row .place) ss i noStep _ (omega arith))) (inv .places);
         entries = ap (λ (x : Track). withEntries x (set (q .entries) i (marked (getD (q .entries) i noEntry) (s .done)))) (inv .entries) ∙ ap (withEntries t) put;
       }
+
+  -- one turn that leaves the entry as it is, since it has that mark
+  pub one-kept : (q : Track) (k : List ℕ) (a p : List Float) (i : ℕ) → Written t ss k₀ a₀ p₀ n q k a p i → i < n → (s : Stepped) → s ≡ getD ss i noStep
+      → s .done ≡ getD (q .entries) i noEntry .done
+      → Written t ss k₀ a₀ p₀ n q (set k i (s .row .kind)) (set a i (s .row .amount)) (set p i (s .row .place)) (i + 1)
+  one-kept q k a p i inv h s e m =
+      let put = ap (λ (d : Bool). set (q .entries) i (marked (getD (q .entries) i noEntry) d)) m ∙ set-getD (q .entries) i noEntry in
+      subst (λ (es : List Entry). Written t ss k₀ a₀ p₀ n (withEntries q es) (set k i (s .row .kind)) (set a i (s .row .amount)) (set p i (s .row .place)) (i + 1)) put
+      (one-more q k a p i inv h s e)
+
+  -- one turn that stores no mark
+  pub one-shown : (k : List ℕ) (a p : List Float) (i : ℕ) → Written t ss k₀ a₀ p₀ n (left t ss i) k a p i → i < n → (s : Stepped) → s ≡ getD ss i noStep
+      → Written t ss k₀ a₀ p₀ n (left t ss (i + 1)) (set k i (s .row .kind)) (set a i (s .row .amount)) (set p i (s .row .place)) (i + 1)
+  one-shown k a p i inv h s e =
+      let w = one-more (left t ss i) k a p i inv h s e in
+      subst (λ (q : Track). Written t ss k₀ a₀ p₀ n q (set k i (s .row .kind)) (set a i (s .row .amount)) (set p i (s .row .place)) (i + 1)) (w .entries) w
 
   -- after the last turn
   pub all-written : (q : Track) (k : List ℕ) (a p : List Float) (i : ℕ) → Written t ss k₀ a₀ p₀ n q k a p i → n ≤ i

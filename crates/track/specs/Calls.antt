@@ -1,8 +1,7 @@
 -- The calls on a track: what each leaves, sends, answers and refuses. `trackStep` is the definition of them all.
 use Prim.Native.Nat.{ℕ}
-use mathlib.Core.Path.{_≡_}
 use mathlib.Core.Bool.{Bool, true, false, not, _&&_, _||_, cond}
-use mathlib.Core.List.{List, [], _∷_, map}
+use mathlib.Core.List.{List, [], map}
 use lib.Dec.{ltb}
 use lib.ListN.{length}
 use lib.Ieee.{Float, eq}
@@ -21,7 +20,7 @@ use Rattle.track.specs.declared.track.Track.{Track}
 use Rattle.track.specs.declared.track.TrackMoved.{TrackMoved}
 use Rattle.track.specs.declared.track.TrackUpdated.{TrackUpdated}
 use Rattle.clock.specs.Clocks.{isCompleted, scaled, cleared, started, played, paused, resumed, seekTo, sought, advancedClock}
-use Rattle.track.specs.Tracks.{live, trackBase, trackRun, shareOf, rowsOf, over, moved, Sent}
+use Rattle.track.specs.Tracks.{live, trackBase, trackRun, shareOf, rowsOf, moved}
 use Rattle.track.specs.Updates.{repliesBad, Advance, playing}
 
 -- how many places of each row slice are lent
@@ -30,6 +29,7 @@ pub record Room : Type 0 where
   pub amounts : ℕ
   pub places : ℕ
 
+-- the room of the three slices
 abbrev pub roomOf : List ℕ → List Float → List Float → Room
 roomOf k a p = record { kinds = length k; amounts = length a; places = length p }
 
@@ -133,12 +133,15 @@ previewed k dt r =
     unless (short r k) rowsTooShort k
     (record { refusal = accepted; track = k; rows = updated k dt [] .rows; running = false; completed = false; listed = [] })
 
+-- the track with another clock
 abbrev pub withClock : Track → Clock → Track
 withClock k c = record { count = k .count; entries = k .entries; clock = c; looping = k .looping }
 
+-- the track in another mode
 abbrev pub withLooping : Track → Loop → Track
 withLooping k mode = record { count = k .count; entries = k .entries; clock = k .clock; looping = mode }
 
+-- what each call on a track leaves and answers
 unfoldable pub trackStep : Track → TrackCall → TrackOut
 trackStep k (Looping mode) = silent accepted (withLooping k mode)
 trackStep k (SetTimeScale scale) = silent accepted (withClock k (scaled (k .clock) scale))
@@ -158,20 +161,3 @@ movedBy o = record { refusal = o .refusal; track = o .track }
 -- the answer of `update`: of the completed entries, how many it wrote to the lent list
 abbrev pub updatedBy : TrackOut → TrackUpdated
 updatedBy o = record { refusal = o .refusal; running = o .running; completed = o .completed; listed = length (o .listed); track = o .track }
-
--- the answer of an update that has sent its steps to the track k and comes to elapsed
-abbrev pub finished : Track → Float → Bool → ℕ → TrackUpdated
-finished k elapsed ended listed =
-    record {
-      refusal = accepted;
-      running = not ended;
-      completed = ended && not (k .clock .«complete_fired»);
-      listed = listed;
-      track = withClock k (advancedClock (k .clock) elapsed ended);
-    }
-
--- what an update with the outcome o answers, and leaves in the lent list and the three row slices
-pub record Answered (o : TrackOut) (r : TrackUpdated) (l₀ l k₀ k : List ℕ) (a₀ a p₀ p : List Float) : Type 0 where
-  pub answer : r ≡ updatedBy o
-  pub rows : Sent (o .rows) k₀ k a₀ a p₀ p
-  pub list : l ≡ over (o .listed) l₀

@@ -1,9 +1,9 @@
 -- The entries of a track, and what rows and marks do to them. Definitions only.
 use Prim.Native.Nat.{ℕ}
 use mathlib.Core.Path.{_≡_}
-use mathlib.Core.Bool.{Bool, true, false, cond}
-use mathlib.Core.List.{List, [], _∷_, _++_, map}
-use lib.ListN.{length, take, drop, replicate}
+use mathlib.Core.Bool.{Bool, false, cond}
+use mathlib.Core.List.{List, [], _∷_, map}
+use lib.ListN.{take, replicate}
 use lib.Ieee.{Float, binary32, div, mul, eq}
 use Rattle.float32.specs.Helpers.{zeroF, oneF, clampF, finiteF}
 use Rattle.tween.specs.declared.loop_mode.Loop.{Loop}
@@ -11,6 +11,7 @@ use Rattle.tween.specs.declared.loop_mode.Loop.the-variants.{Once}
 use Rattle.steps.specs.declared.Entry.{Entry}
 use Rattle.steps.specs.declared.Row.{Row}
 use Rattle.steps.specs.declared.Stepped.{Stepped}
+use Rattle.steps.specs.Slices.{over}
 use Rattle.steps.specs.Times.{maxEntries, baseOf, runOf, localTime}
 use Rattle.clock.specs.declared.Clock.{Clock}
 use Rattle.track.specs.declared.track.Track.{Track}
@@ -43,6 +44,7 @@ progressIn mode base total elapsed =
     (cond (finiteF total) (clampF (div binary32 elapsed total) zeroF oneF)
     (cond (eq base zeroF) oneF (clampF (div binary32 (localTime mode base elapsed) base) zeroF oneF)))
 
+-- `progress`
 abbrev pub progressOf : Track → Float
 progressOf k = progressIn (k .looping) (trackBase k) (trackRun k) (k .clock .elapsed)
 
@@ -50,6 +52,7 @@ progressOf k = progressIn (k .looping) (trackBase k) (trackRun k) (k .clock .ela
 unfoldable pub shareIn : Float → Float → Float → Float
 shareIn base total share = mul binary32 (cond (finiteF total) total base) (clampF share zeroF oneF)
 
+-- the same, in a track
 abbrev pub shareOf : Track → Float → Float
 shareOf k share = shareIn (trackBase k) (trackRun k) share
 
@@ -65,12 +68,9 @@ marks [] ss = []
 marks (e ∷ es) [] = []
 marks (e ∷ es) (s ∷ ss) = marked e (s .done) ∷ marks es ss
 
+-- the rows of the steps
 abbrev pub rowsOf : List Stepped → List Row
 rowsOf = map (λ s. s .row)
-
--- xs over the front of old: what lies beyond is as it was
-abbrev pub over : {A : Type 0} → List A → List A → List A
-over xs old = xs ++ drop (length xs) old
 
 -- the track k with the clock c and the marks that the steps leave
 abbrev pub moved : Track → Clock → List Stepped → Track

@@ -10,11 +10,10 @@ use Rattle.tween.specs.declared.loop_mode.Loop.{Loop}
 use Rattle.tween.specs.declared.loop_mode.Loop.the-variants.{Once, Times, Forever, PingPong, PingPongTimes}
 use Rattle.steps.specs.declared.Entry.{Entry}
 use Rattle.steps.specs.declared.Stepped.{Stepped}
-use Rattle.steps.specs.declared.Rule.{Rule}
 use Rattle.steps.specs.declared.Rule.the-variants.{Keep, Sync}
 use Rattle.steps.specs.Times.{localTime, runOf}
 use Rattle.steps.specs.Rows.{ticked, ruled}
-use Rattle.walk.specs.Completions.{completionsBetween}
+use Rattle.walk.specs.Completions.{keep, completionsBetween}
 use Rattle.clock.specs.Clocks.{nextElapsed}
 use Rattle.track.specs.declared.track.Track.{Track}
 use Rattle.track.specs.Tracks.{live, trackBase}
@@ -33,15 +32,11 @@ unfoldable pub ticks : Float → Float → List Entry → List ℕ → List Step
 ticks prev next [] rs = []
 ticks prev next (e ∷ es) rs = ticked prev next e (getD rs 0 1) ∷ ticks prev next es (drop 1 rs)
 
-abbrev pub keepIf : Bool → ℕ → List ℕ → List ℕ
-keepIf true i is = i ∷ is
-keepIf false i is = is
-
 -- `!was_completed && entry.completed`: the numbers, from i, of the entries that were not done and now are
 unfoldable pub newlyDone : ℕ → List Entry → List Stepped → List ℕ
 newlyDone i [] ss = []
 newlyDone i (e ∷ es) [] = []
-newlyDone i (e ∷ es) (s ∷ ss) = keepIf (not (e .done) && s .done) i (newlyDone (suc i) es ss)
+newlyDone i (e ∷ es) (s ∷ ss) = keep (not (e .done) && s .done) i (newlyDone (suc i) es ss)
 
 -- what an update comes to: each entry's step, the elapsed time, whether the run ends here, and the completed entries
 pub record Advance : Type 0 where
@@ -66,6 +61,7 @@ syncedTo mode es base prev next elapsed ended =
       listed = completionsBetween mode es prev next;
     }
 
+-- the mode that ticks
 abbrev pub isOnce : Loop → Bool
 isOnce Once = true
 isOnce (Times n) = false

@@ -7,10 +7,12 @@ use steps::Rule;
 use tween::Loop;
 ghost use mathlib.Core.Path.{_≡_};
 ghost use mathlib.Core.List.{map};
+ghost use mathlib.Core.Bool.{_||_};
 ghost use Prim.Native.Nat.{_≤_};
+ghost use lib.Dec.{ltb};
 ghost use lib.ListN.{length};
 ghost use Rattle.steps.specs.Rows.{ruled};
-ghost use Rattle.track.specs.Tracks.{emptyTrack, live, trackBase, trackRun, progressIn, progressOf, shareIn, rowsOf, moved, Sent};
+ghost use Rattle.track.specs.Tracks.{emptyTrack, live, trackBase, trackRun, progressIn, progressOf, shareIn, marked, rowsOf, moved, Sent};
 ghost use Rattle.track.specs.Calls.{Looping, SetTimeScale, Play, Pause, Resume, Reset, Seek, SeekAbs, roomOf, sent, playRule, trackStep, movedBy};
 
 // Seconds of play, as `seek_abs` takes them.
@@ -42,6 +44,30 @@ pub struct TrackUpdated {
     pub track: Track,
 }
 
+// 3: one of the three row slices, with room for these, is shorter than n entries.
+pub(crate) fn rows_short(n: usize, kinds: usize, amounts: usize, places: usize) -> bool
+    ensures { λ r. ⌜ r ≡ (ltb kinds n || (ltb amounts n || ltb places n)) ⌝ }
+{
+    if kinds < n {
+        return true;
+    }
+    if amounts < n {
+        return true;
+    }
+    places < n
+}
+
+// The entry with this mark.
+pub(crate) fn marked(e: Entry, done: bool) -> Entry
+    ensures { λ r. ⌜ r ≡ marked e done ⌝ }
+{
+    Entry {
+        start: e.start,
+        duration: e.duration,
+        done,
+    }
+}
+
 // To every entry what the rule sends, into the three slices, and its mark.
 pub(crate) fn apply(
     track: Track,
@@ -66,11 +92,7 @@ pub(crate) fn apply(
         kinds[i] = row.kind;
         amounts[i] = row.amount;
         places[i] = row.place;
-        let m = Entry {
-            start: e.start,
-            duration: e.duration,
-            done: s.done,
-        };
+        let m = marked(e, s.done);
         q.entries[i] = m;
         i += 1;
     }
@@ -90,19 +112,7 @@ fn send(
     ensures { λ _. ⌜ Sent (sent track clock rule (roomOf (now (kinds .entry)) (now (amounts .entry)) (now (places .entry))) .rows) (now (kinds .entry)) (now (kinds .exit)) (now (amounts .entry)) (now (amounts .exit)) (now (places .entry)) (now (places .exit)) ⌝ }
 {
     let n = track.entry_count();
-    if kinds.len() < n {
-        return TrackMoved {
-            refusal: refusal::ROWS_TOO_SHORT,
-            track,
-        };
-    }
-    if amounts.len() < n {
-        return TrackMoved {
-            refusal: refusal::ROWS_TOO_SHORT,
-            track,
-        };
-    }
-    if places.len() < n {
+    if rows_short(n, kinds.len(), amounts.len(), places.len()) {
         return TrackMoved {
             refusal: refusal::ROWS_TOO_SHORT,
             track,
@@ -116,6 +126,7 @@ fn send(
     }
 }
 
+// What `play` sends to every entry, from this clock.
 fn play_rule(mode: Loop, clock: Clock, base: f32) -> Rule
     ensures { λ r. ⌜ r ≡ playRule mode clock base ⌝ }
 {
@@ -304,7 +315,7 @@ impl Track {
         seek_in(self, base, total, secs, kinds, amounts, places)
     }
 
-    // `seek_abs`
+    // `seek_abs`. Both loops and the one exit stand here, since entries that are passed on, or held at a further exit, are copied.
     pub fn seek_abs(
         self,
         to: Secs,
@@ -315,10 +326,47 @@ impl Track {
         ensures { λ r. ⌜ r ≡ movedBy (trackStep self (SeekAbs (to .0) (roomOf (now (kinds .entry)) (now (amounts .entry)) (now (places .entry))))) ⌝ }
         ensures { λ _. ⌜ Sent (trackStep self (SeekAbs (to .0) (roomOf (now (kinds .entry)) (now (amounts .entry)) (now (places .entry)))) .rows) (now (kinds .entry)) (now (kinds .exit)) (now (amounts .entry)) (now (amounts .exit)) (now (places .entry)) (now (places .exit)) ⌝ }
     {
-        let base = self.duration();
+        let n = self.entry_count();
         let mode = self.looping;
-        let total = steps::run_of(mode, base);
-        seek_in(self, base, total, to.0, kinds, amounts, places)
+        let mut clock = self.clock;
+        let mut entries = self.entries;
+        let mut refusal = refusal::ROWS_TOO_SHORT;
+        if !rows_short(n, kinds.len(), amounts.len(), places.len()) {
+            refusal = refusal::ACCEPTED;
+            // the base
+            let mut ends = [0.0f32; MAX_ENTRIES];
+            let mut i = 0usize;
+            while i < n {
+                ends[i] = steps::end_at(entries[i]);
+                i += 1;
+            }
+            let base = walk::base_of(&ends[..n]);
+            let total = steps::run_of(mode, base);
+            let elapsed = clock::seek_to(total, to.0);
+            let t = steps::local_time(mode, base, elapsed);
+            clock = clock.sought(total, elapsed);
+            // `sync_to_elapsed`
+            let mut j = 0usize;
+            while j < n {
+                let e = entries[j];
+                let s = steps::sync_entry(t, e);
+                let row = s.row;
+                kinds[j] = row.kind;
+                amounts[j] = row.amount;
+                places[j] = row.place;
+                if s.done != e.done {
+                    entries[j] = marked(e, s.done);
+                }
+                j += 1;
+            }
+        }
+        let track = Track {
+            count: self.count,
+            entries,
+            clock,
+            looping: mode,
+        };
+        TrackMoved { refusal, track }
     }
 
     // The base: `duration`.

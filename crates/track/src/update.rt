@@ -2,6 +2,9 @@
 use crate::track::Track;
 use crate::track::TrackUpdated;
 use crate::track::apply;
+use crate::track::marked;
+use crate::track::rows_short;
+use clock::Clock;
 use steps::Entry;
 use steps::MAX_ENTRIES;
 use steps::Rule;
@@ -9,18 +12,21 @@ use steps::Stepped;
 use tween::Loop;
 use walk::Counted;
 ghost use mathlib.Core.Path.{_≡_};
-ghost use mathlib.Core.Bool.{not, _&&_, _||_};
+ghost use mathlib.Core.Bool.{not, _&&_, _||_, true, false};
 ghost use mathlib.Core.List.{[]};
 ghost use Prim.Native.Nat.{_+_, _≤_, _<_};
 ghost use lib.Dec.{ltb};
 ghost use lib.ListN.{length, take};
 ghost use lib.Seq.{sets};
-ghost use lib.Ieee.{le};
-ghost use Rattle.float32.specs.Helpers.{minF};
-ghost use Rattle.clock.specs.Clocks.{isCompleted, isPlaying};
-ghost use Rattle.track.specs.Tracks.{live, rowsOf, moved, over, Sent};
-ghost use Rattle.track.specs.Updates.{isOnce, aboveOne, ticks, keepIf, newlyDone, tickedTo, syncedTo, advanced, playing};
-ghost use Rattle.track.specs.Calls.{Update, Preview, roomOf, silent, rested, advancedTo, fitted, trackStep, updatedBy, finished, Answered};
+ghost use lib.Ieee.{le, eq};
+ghost use Rattle.float32.specs.Helpers.{zeroF, minF};
+ghost use Rattle.walk.specs.Completions.{keep};
+ghost use Rattle.clock.specs.Clocks.{isPlaying, nextElapsed};
+ghost use Rattle.track.specs.Tracks.{live, trackBase, rowsOf, Sent};
+ghost use Rattle.steps.specs.Slices.{over};
+ghost use Rattle.track.specs.Updates.{isOnce, aboveOne, ticks, newlyDone, advanced, playing};
+ghost use Rattle.track.specs.Calls.{Update, Preview, roomOf, updated, fitted, trackStep, updatedBy};
+ghost use Rattle.track.specs.Courses.{isTicking, checkedBy, stoppedBy, reachedFrom, restingIn, answerIn, courseRule};
 ghost use Rattle.track.specs.Claims.{Claims};
 
 // Where an update comes to: the elapsed time, and whether the run ends there.
@@ -29,23 +35,25 @@ struct Reach {
     ended: bool,
 }
 
-// What a tick leaves: how many entries it listed, and the track.
-struct Ticked {
-    listed: usize,
-    track: Track,
+// What an update that does not tick sends to every entry, its answer, and the clock that it leaves.
+struct Course {
+    rule: Rule,
+    answer: Answer,
+    clock: Clock,
 }
 
-// 3: one of the three row slices, with room for these, is shorter than n entries.
-fn rows_short(n: usize, kinds: usize, amounts: usize, places: usize) -> bool
-    ensures { λ r. ⌜ r ≡ (ltb kinds n || (ltb amounts n || ltb places n)) ⌝ }
-{
-    if kinds < n {
-        return true;
-    }
-    if amounts < n {
-        return true;
-    }
-    places < n
+// Where a tick goes from, and where it comes to.
+struct Passage {
+    from: f32,
+    to: Reach,
+}
+
+// What an update answers beside the track.
+struct Answer {
+    refusal: u8,
+    running: bool,
+    completed: bool,
+    listed: usize,
 }
 
 // 4: there are fewer replies than n, or one of those is above 1.
@@ -65,44 +73,45 @@ fn replies_bad(replies: &[u8], n: usize) -> bool
     false
 }
 
-// A refused update: the track as it was.
-fn refused(track: Track, refusal: u8) -> TrackUpdated
-    ensures { λ r. ⌜ r ≡ updatedBy (silent refusal track) ⌝ }
+// 3 or 4, in this order, or 0.
+fn checked(n: usize, replies: &[u8], kinds: usize, amounts: usize, places: usize) -> u8
+    ensures { λ r. ⌜ r ≡ checkedBy n (now (replies .entry)) kinds amounts places ⌝ }
 {
-    TrackUpdated {
+    if rows_short(n, kinds, amounts, places) {
+        return refusal::ROWS_TOO_SHORT;
+    }
+    if replies_bad(replies, n) {
+        return refusal::BAD_REPLIES;
+    }
+    refusal::ACCEPTED
+}
+
+// The answer of an update that is refused by this number; by 0, not answered yet.
+fn stopped(refusal: u8) -> Answer
+    ensures { λ r. ⌜ r ≡ stoppedBy refusal ⌝ }
+{
+    Answer {
         refusal,
         running: false,
         completed: false,
         listed: 0,
-        track,
     }
 }
 
-// The answer of an update whose steps left this track, with its clock as it was.
-fn finish(track: Track, to: Reach, listed: usize) -> TrackUpdated
-    ensures { λ r. ⌜ r ≡ finished track (to .elapsed) (to .ended) listed ⌝ }
+// The answer of an update from this clock that ends the run, or does not.
+fn reached(clock: Clock, ended: bool, listed: usize) -> Answer
+    ensures { λ r. ⌜ r ≡ reachedFrom clock ended listed ⌝ }
 {
-    let c = track.clock;
-    let ended = to.ended;
-    let clock = c.advanced(to.elapsed, ended);
-    let completed = both(ended, !c.complete_fired);
-    let mut q = track;
-    q.clock = clock;
-    TrackUpdated {
+    let completed = steps::both(ended, !clock.complete_fired);
+    Answer {
         refusal: refusal::ACCEPTED,
         running: !ended,
         completed,
         listed,
-        track: q,
     }
 }
 
-fn both(a: bool, b: bool) -> bool
-    ensures { λ r. ⌜ r ≡ (a && b) ⌝ }
-{
-    if a { b } else { false }
-}
-
+// Whether the mode is Once, in which an update ticks.
 fn is_once(mode: Loop) -> bool
     ensures { λ r. ⌜ r ≡ isOnce mode ⌝ }
 {
@@ -144,71 +153,45 @@ fn reach_in(mode: Loop, base: f32, next: f32) -> Reach
     }
 }
 
+// Whether an update ticks: Playing in Once, with a base that is not 0.
+fn is_ticking(mode: Loop, clock: Clock, base: f32) -> bool
+    ensures { λ r. ⌜ r ≡ isTicking mode clock base ⌝ }
+{
+    if base == 0.0 {
+        return false;
+    }
+    let state = clock.state;
+    steps::both(is_once(mode), clock::is_playing(state))
+}
+
+// A tick stays within the base.
+fn passage_of(clock: Clock, base: f32, dt: f32) -> Passage
+    ensures { λ r. ⌜ (r .from ≡ minF (clock .elapsed) base) × (r .to .elapsed ≡ minF (nextElapsed clock dt) base) × (r .to .ended ≡ le base (nextElapsed clock dt)) ⌝ }
+{
+    let next = clock.next_elapsed(dt);
+    Passage {
+        from: float32::min(clock.elapsed, base),
+        to: bounded(base, next),
+    }
+}
+
 // `!was_completed && entry.completed`
 fn newly_done(e: Entry, s: Stepped) -> bool
     ensures { λ r. ⌜ r ≡ (not (e .done) && s .done) ⌝ }
 {
-    both(!e.done, s.done)
+    steps::both(!e.done, s.done)
 }
 
 // Lists the number i at the place at, if it is newly done; says where the next one goes.
 fn note(list: &mut [u8], at: usize, newly: bool, i: usize) -> usize
-    requires { ⌜ (i < 256) × (at + length (keepIf newly i []) ≤ length (now list)) ⌝ }
-    ensures { λ r. ⌜ (r ≡ at + length (keepIf newly i [])) × (now (list .exit) ≡ sets (now (list .entry)) at (keepIf newly i [])) ⌝ }
+    requires { ⌜ (i < 256) × (at + length (keep newly i []) ≤ length (now list)) ⌝ }
+    ensures { λ r. ⌜ (r ≡ at + length (keep newly i [])) × (now (list .exit) ≡ sets (now (list .entry)) at (keep newly i [])) ⌝ }
 {
     if newly {
         list[at] = i as u8;
         return at + 1;
     }
     at
-}
-
-// `tick_forward`: to every entry what the step from prev to next sends, its mark, and in the list the numbers of those newly done.
-fn tick(
-    track: Track,
-    prev: f32,
-    next: f32,
-    replies: &[u8],
-    list: &mut [u8],
-    kinds: &mut [u8],
-    amounts: &mut [f32],
-    places: &mut [f32],
-) -> Ticked
-    requires { ⌜ length (live track) ≤ length (now replies) ⌝ }
-    requires { ⌜ length (newlyDone 0 (live track) (ticks prev next (live track) (now replies))) ≤ length (now list) ⌝ }
-    requires { ⌜ length (live track) ≤ length (now kinds) ⌝ }
-    requires { ⌜ length (live track) ≤ length (now amounts) ⌝ }
-    requires { ⌜ length (live track) ≤ length (now places) ⌝ }
-    ensures { λ r. ⌜ r .track ≡ moved track (track .clock) (ticks prev next (live track) (now (replies .entry))) ⌝ }
-    ensures { λ _. ⌜ Sent (rowsOf (ticks prev next (live track) (now (replies .entry)))) (now (kinds .entry)) (now (kinds .exit)) (now (amounts .entry)) (now (amounts .exit)) (now (places .entry)) (now (places .exit)) ⌝ }
-    ensures { λ r. ⌜ r .listed ≡ length (newlyDone 0 (live track) (ticks prev next (live track) (now (replies .entry)))) ⌝ }
-    ensures { λ _. ⌜ now (list .exit) ≡ over (newlyDone 0 (live track) (ticks prev next (live track) (now (replies .entry)))) (now (list .entry)) ⌝ }
-{
-    let n = track.entry_count();
-    let mut q = track;
-    let mut k = 0usize;
-    let mut i = 0usize;
-    while i < n {
-        let e = q.entries[i];
-        let s = steps::tick_entry(prev, next, e, replies[i]);
-        let newly = newly_done(e, s);
-        k = note(list, k, newly, i);
-        let row = s.row;
-        kinds[i] = row.kind;
-        amounts[i] = row.amount;
-        places[i] = row.place;
-        let m = Entry {
-            start: e.start,
-            duration: e.duration,
-            done: s.done,
-        };
-        q.entries[i] = m;
-        i += 1;
-    }
-    Ticked {
-        listed: k,
-        track: q,
-    }
 }
 
 // How many entries the tick would list.
@@ -243,120 +226,84 @@ fn outnumber(track: Track, prev: f32, next: f32, replies: &[u8], room: usize) ->
     room < count_done(track, prev, next, replies)
 }
 
-// An update in Once, which comes to to.
-fn tick_to(
-    track: Track,
-    base: f32,
-    next: f32,
-    to: Reach,
-    replies: &[u8],
-    list: &mut [u8],
-    kinds: &mut [u8],
-    amounts: &mut [f32],
-    places: &mut [f32],
-) -> TrackUpdated
-    requires { ⌜ (to .elapsed ≡ minF next base) × (to .ended ≡ le base next) ⌝ }
-    requires { ⌜ length (live track) ≤ length (now replies) ⌝ }
-    requires { ⌜ length (live track) ≤ length (now kinds) ⌝ }
-    requires { ⌜ length (live track) ≤ length (now amounts) ⌝ }
-    requires { ⌜ length (live track) ≤ length (now places) ⌝ }
-    ensures { λ r. ⌜ Answered (fitted (length (now (list .entry))) track (advancedTo track (tickedTo (live track) base (track .clock .elapsed) next (now (replies .entry))))) r (now (list .entry)) (now (list .exit)) (now (kinds .entry)) (now (kinds .exit)) (now (amounts .entry)) (now (amounts .exit)) (now (places .entry)) (now (places .exit)) ⌝ }
-{
-    let c = track.clock;
-    let from = float32::min(c.elapsed, base);
-    let end = to.elapsed;
-    if outnumber(track, from, end, replies, list.len()) {
-        return refused(track, refusal::LIST_TOO_SHORT);
-    }
-    let ticked = tick(track, from, end, replies, list, kinds, amounts, places);
-    let q = ticked.track;
-    finish(q, to, ticked.listed)
-}
-
-// An update in the other modes: the completions first, and where they fit, every entry synchronised.
-fn sync_to(
-    track: Track,
-    base: f32,
-    next: f32,
-    to: Reach,
-    list: &mut [u8],
-    kinds: &mut [u8],
-    amounts: &mut [f32],
-    places: &mut [f32],
-) -> TrackUpdated
-    requires { ⌜ length (live track) ≤ length (now kinds) ⌝ }
-    requires { ⌜ length (live track) ≤ length (now amounts) ⌝ }
-    requires { ⌜ length (live track) ≤ length (now places) ⌝ }
-    ensures { λ r. ⌜ Answered (fitted (length (now (list .entry))) track (advancedTo track (syncedTo (track .looping) (live track) base (track .clock .elapsed) next (to .elapsed) (to .ended)))) r (now (list .entry)) (now (list .exit)) (now (kinds .entry)) (now (kinds .exit)) (now (amounts .entry)) (now (amounts .exit)) (now (places .entry)) (now (places .exit)) ⌝ }
-{
-    let mode = track.looping;
-    let c = track.clock;
-    let entries = track.entries;
-    let counted = walk::completions(entries, track.count, mode, c.elapsed, next, list);
-    match counted {
-        Counted::Within(listed) => {
-            let t = steps::local_time(mode, base, to.elapsed);
-            let rule = Rule::Sync(t);
-            let q = apply(track, rule, kinds, amounts, places);
-            finish(q, to, listed)
-        }
-        Counted::Over => refused(track, refusal::LIST_TOO_SHORT),
-    }
-}
-
-// An update while Playing. A base of 0 completes at once.
-fn play_on(
-    track: Track,
-    dt: f32,
-    replies: &[u8],
-    list: &mut [u8],
-    kinds: &mut [u8],
-    amounts: &mut [f32],
-    places: &mut [f32],
-) -> TrackUpdated
-    requires { ⌜ length (live track) ≤ length (now replies) ⌝ }
-    requires { ⌜ length (live track) ≤ length (now kinds) ⌝ }
-    requires { ⌜ length (live track) ≤ length (now amounts) ⌝ }
-    requires { ⌜ length (live track) ≤ length (now places) ⌝ }
-    ensures { λ r. ⌜ Answered (fitted (length (now (list .entry))) track (advancedTo track (playing track dt (now (replies .entry))))) r (now (list .entry)) (now (list .exit)) (now (kinds .entry)) (now (kinds .exit)) (now (amounts .entry)) (now (amounts .exit)) (now (places .entry)) (now (places .exit)) ⌝ }
-{
-    let base = track.duration();
-    let c = track.clock;
-    if base == 0.0 {
-        let to = Reach {
-            elapsed: c.elapsed,
-            ended: true,
-        };
-        let q = apply(track, Rule::Keep, kinds, amounts, places);
-        return finish(q, to, 0);
-    }
-    let next = c.next_elapsed(dt);
-    let mode = track.looping;
-    let to = reach_in(mode, base, next);
-    if is_once(mode) {
-        return tick_to(track, base, next, to, replies, list, kinds, amounts, places);
-    }
-    sync_to(track, base, next, to, list, kinds, amounts, places)
-}
-
 // An update that does not play: it still runs, but where it is Completed.
-fn rest(track: Track, kinds: &mut [u8], amounts: &mut [f32], places: &mut [f32]) -> TrackUpdated
-    requires { ⌜ length (live track) ≤ length (now kinds) ⌝ }
-    requires { ⌜ length (live track) ≤ length (now amounts) ⌝ }
-    requires { ⌜ length (live track) ≤ length (now places) ⌝ }
-    ensures { λ r. ⌜ r ≡ updatedBy (rested track (not (isCompleted (track .clock .state)))) ⌝ }
-    ensures { λ _. ⌜ Sent (rested track (not (isCompleted (track .clock .state))) .rows) (now (kinds .entry)) (now (kinds .exit)) (now (amounts .entry)) (now (amounts .exit)) (now (places .entry)) (now (places .exit)) ⌝ }
+fn resting(clock: Clock) -> Answer
+    ensures { λ r. ⌜ r ≡ restingIn clock ⌝ }
 {
-    let c = track.clock;
-    let state = c.state;
+    let state = clock.state;
     let completed = clock::is_completed(state);
-    let q = apply(track, Rule::Keep, kinds, amounts, places);
-    TrackUpdated {
+    Answer {
         refusal: refusal::ACCEPTED,
         running: !completed,
         completed: false,
         listed: 0,
-        track: q,
+    }
+}
+
+// An update in another mode than Once: the completions are listed, if the list has room for them.
+fn looped(track: Track, base: f32, dt: f32, list: &mut [u8]) -> Course
+    requires { ⌜ (base ≡ trackBase track) × (eq base zeroF ≡ false) ⌝ }
+    requires { ⌜ (isOnce (track .looping) ≡ false) × (isPlaying (track .clock .state) ≡ true) ⌝ }
+    ensures { λ r. ⌜ r .rule ≡ courseRule track dt ⌝ }
+    ensures { λ r. ⌜ r .answer ≡ answerIn (fitted (length (now (list .entry))) track (updated track dt [])) ⌝ }
+    ensures { λ r. ⌜ r .clock ≡ fitted (length (now (list .entry))) track (updated track dt []) .track .clock ⌝ }
+    ensures { λ _. ⌜ now (list .exit) ≡ over (fitted (length (now (list .entry))) track (updated track dt []) .listed) (now (list .entry)) ⌝ }
+{
+    let c = track.clock;
+    let next = c.next_elapsed(dt);
+    let mode = track.looping;
+    let to = reach_in(mode, base, next);
+    let rule = Rule::Sync(steps::local_time(mode, base, to.elapsed));
+    let entries = track.entries;
+    let counted = walk::completions(entries, track.count, mode, c.elapsed, next, list);
+    match counted {
+        Counted::Within(listed) => {
+            let answer = reached(c, to.ended, listed);
+            let clock = c.advanced(to.elapsed, to.ended);
+            Course {
+                rule,
+                answer,
+                clock,
+            }
+        }
+        Counted::Over => {
+            let answer = stopped(refusal::LIST_TOO_SHORT);
+            Course {
+                rule,
+                answer,
+                clock: c,
+            }
+        }
+    }
+}
+
+// The course of an update that does not tick. While Playing, a base of 0 completes at once.
+fn course_of(track: Track, base: f32, dt: f32, list: &mut [u8]) -> Course
+    requires { ⌜ (base ≡ trackBase track) × (isTicking (track .looping) (track .clock) base ≡ false) ⌝ }
+    ensures { λ r. ⌜ r .rule ≡ courseRule track dt ⌝ }
+    ensures { λ r. ⌜ r .answer ≡ answerIn (fitted (length (now (list .entry))) track (updated track dt [])) ⌝ }
+    ensures { λ r. ⌜ r .clock ≡ fitted (length (now (list .entry))) track (updated track dt []) .track .clock ⌝ }
+    ensures { λ _. ⌜ now (list .exit) ≡ over (fitted (length (now (list .entry))) track (updated track dt []) .listed) (now (list .entry)) ⌝ }
+{
+    let c = track.clock;
+    let state = c.state;
+    if clock::is_playing(state) {
+        if base == 0.0 {
+            let answer = reached(c, true, 0);
+            let clock = c.advanced(c.elapsed, true);
+            return Course {
+                rule: Rule::Keep,
+                answer,
+                clock,
+            };
+        }
+        return looped(track, base, dt, list);
+    }
+    let answer = resting(c);
+    Course {
+        rule: Rule::Keep,
+        answer,
+        clock: c,
     }
 }
 
@@ -374,18 +321,17 @@ fn show_tick(
     requires { ⌜ length (live track) ≤ length (now places) ⌝ }
     ensures { λ _. ⌜ Sent (rowsOf (ticks prev next (live track) [])) (now (kinds .entry)) (now (kinds .exit)) (now (amounts .entry)) (now (amounts .exit)) (now (places .entry)) (now (places .exit)) ⌝ }
 {
-    let replies = [1u8; MAX_ENTRIES];
-    let mut list = [0u8; MAX_ENTRIES];
-    tick(
-        track,
-        prev,
-        next,
-        &replies,
-        &mut list,
-        kinds,
-        amounts,
-        places,
-    );
+    let n = track.entry_count();
+    let mut i = 0usize;
+    while i < n {
+        let e = track.entries[i];
+        let s = steps::tick_entry(prev, next, e, 1);
+        let row = s.row;
+        kinds[i] = row.kind;
+        amounts[i] = row.amount;
+        places[i] = row.place;
+        i += 1;
+    }
 }
 
 // To every entry the row of an update while Playing.
@@ -416,7 +362,8 @@ fn show_play(track: Track, dt: f32, kinds: &mut [u8], amounts: &mut [f32], place
 }
 
 impl Track {
-    // `update`, with each leaf's reply. The list holds the numbers of the entries that completed.
+    // `update`, with each leaf's reply. The list holds the numbers of the entries that completed. Both loops go over one copy of the
+    // entries, as in `seek_abs`.
     pub fn update(
         self,
         dt: f32,
@@ -431,18 +378,71 @@ impl Track {
         ensures { λ _. ⌜ now (list .exit) ≡ over (trackStep self (Update dt (now (replies .entry)) (length (now (list .entry))) (roomOf (now (kinds .entry)) (now (amounts .entry)) (now (places .entry)))) .listed) (now (list .entry)) ⌝ }
     {
         let n = self.entry_count();
-        if rows_short(n, kinds.len(), amounts.len(), places.len()) {
-            return refused(self, refusal::ROWS_TOO_SHORT);
+        let mode = self.looping;
+        let mut clock = self.clock;
+        let mut entries = self.entries;
+        let no = checked(n, replies, kinds.len(), amounts.len(), places.len());
+        let mut a = stopped(no);
+        if no == refusal::ACCEPTED {
+            // the base
+            let mut ends = [0.0f32; MAX_ENTRIES];
+            let mut i = 0usize;
+            while i < n {
+                ends[i] = steps::end_at(entries[i]);
+                i += 1;
+            }
+            let base = walk::base_of(&ends[..n]);
+            if is_ticking(mode, clock, base) {
+                let p = passage_of(clock, base, dt);
+                let to = p.to;
+                let end = to.elapsed;
+                if outnumber(self, p.from, end, replies, list.len()) {
+                    a = stopped(refusal::LIST_TOO_SHORT);
+                } else {
+                    // `tick_forward`
+                    let mut listed = 0usize;
+                    let mut j = 0usize;
+                    while j < n {
+                        let e = entries[j];
+                        let s = steps::tick_entry(p.from, end, e, replies[j]);
+                        let newly = newly_done(e, s);
+                        listed = note(list, listed, newly, j);
+                        let row = s.row;
+                        kinds[j] = row.kind;
+                        amounts[j] = row.amount;
+                        places[j] = row.place;
+                        if s.done != e.done {
+                            entries[j] = marked(e, s.done);
+                        }
+                        j += 1;
+                    }
+                    a = reached(clock, to.ended, listed);
+                    clock = clock.advanced(end, to.ended);
+                }
+            } else {
+                let w = course_of(self, base, dt, list);
+                a = w.answer;
+                if a.refusal == refusal::ACCEPTED {
+                    let rule = w.rule;
+                    let q = apply(self, rule, kinds, amounts, places);
+                    entries = q.entries;
+                    clock = w.clock;
+                }
+            }
         }
-        if replies_bad(replies, n) {
-            return refused(self, refusal::BAD_REPLIES);
+        let track = Track {
+            count: self.count,
+            entries,
+            clock,
+            looping: mode,
+        };
+        TrackUpdated {
+            refusal: a.refusal,
+            running: a.running,
+            completed: a.completed,
+            listed: a.listed,
+            track,
         }
-        let c = self.clock;
-        let state = c.state;
-        if clock::is_playing(state) {
-            return play_on(self, dt, replies, list, kinds, amounts, places);
-        }
-        rest(self, kinds, amounts, places)
     }
     // The rows that `update` with room enough would write. It refuses by 3 only.
     pub fn preview(self, dt: f32, kinds: &mut [u8], amounts: &mut [f32], places: &mut [f32]) -> u8

@@ -62,6 +62,7 @@ pub struct Delay {
 const MAX_SIDE: u32 = 65_535;
 
 impl Delay {
+    // The answer of an accepted call.
     fn accepted(delay: f32) -> Self
         ensures { λ r. ⌜ r ≡ acceptedDelay delay ⌝ }
     {
@@ -71,6 +72,7 @@ impl Delay {
         }
     }
 
+    // The answer of a refused one.
     fn refused(refusal: u8) -> Self
         ensures { λ r. ⌜ r ≡ refusedDelay refusal ⌝ }
     {

@@ -8,7 +8,8 @@ use lib.ListN.{length}
 use lib.Dec.{leb, leb·zero}
 use borrow.Author.Tests.{leb-true}
 use Rattle.walk.specs.declared.Counted.the-variants.{Within, Over}
-use Rattle.walk.specs.Answers.{roomFor, counted, over, Listed}
+use Rattle.walk.specs.Answers.{roomFor, counted, Listed}
+use Rattle.steps.specs.Slices.{over}
 
 no-length : (xs : List ℕ) → length xs ≡ 0 → xs ≡ []
 no-length [] h = refl

@@ -11,7 +11,7 @@ use lib.Seq.{sets, sets-eq, drop-cons}
 use lib.Ieee.{Float, nan}
 use Rattle.walk.specs.declared.Walk.{Walk}
 use Rattle.walk.specs.Completions.{completes, keep, inCycle}
-use Rattle.walk.specs.Answers.{over}
+use Rattle.steps.specs.Slices.{over}
 
 -- what the cycle lists from the entry i on
 unfoldable pub rest : Walk → Float → List Float → ℕ → List ℕ

@@ -2,8 +2,9 @@
 use Prim.Native.Nat.{ℕ}
 use mathlib.Core.Path.{_≡_}
 use mathlib.Core.Bool.{Bool, true, false, cond}
-use mathlib.Core.List.{List, _++_}
-use lib.ListN.{length, drop}
+use mathlib.Core.List.{List}
+use lib.ListN.{length}
+use Rattle.steps.specs.Slices.{over}
 use lib.Dec.{leb}
 use Rattle.refusal.specs.Refusal.{accepted, listTooShort}
 use Rattle.walk.specs.declared.Counted.{Counted}
@@ -23,13 +24,10 @@ listedOf Over = 0
 abbrev pub roomFor : List ℕ → List ℕ → Bool
 roomFor xs old = leb (length xs) (length old)
 
+-- the answer: how many there are, where the list has room for them
 abbrev pub counted : Bool → ℕ → Counted
 counted true n = Within n
 counted false n = Over
-
--- xs over the front of a lent slice: "the list beyond that count is untouched"
-abbrev pub over : {A : Type 0} → List A → List A → List A
-over xs old = xs ++ drop (length xs) old
 
 -- the answer r, and the list as it was lent and as it is left, where the completions are xs
 pub record Listed (xs old new : List ℕ) (r : Counted) : Type 0 where

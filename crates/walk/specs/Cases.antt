@@ -19,15 +19,18 @@ pub record Case : Type 0 where
   pub next : Float
   pub listed : List ℕ
 
+-- the two lists have the same numbers
 abbrev pub sameList : List ℕ → List ℕ → Bool
 sameList [] [] = true
 sameList [] (y ∷ ys) = false
 sameList (x ∷ xs) [] = false
 sameList (x ∷ xs) (y ∷ ys) = eqb x y && sameList xs ys
 
+-- the definition gives what the case says
 unfoldable pub caseHolds : Case → Bool
 caseHolds k = sameList (completionsBetween (k .mode) (k .entries) (k .prev) (k .next)) (k .listed)
 
+-- of every case
 unfoldable pub allHold : List Case → Bool
 allHold [] = true
 allHold (k ∷ ks) = caseHolds k && allHold ks
@@ -52,9 +55,11 @@ farF = ofBits binary32 0x71800000
 abbrev lasting : Float → Entry
 lasting duration = record { start = zeroF; duration = duration; done = false }
 
+-- a case, of its parts
 abbrev case : List Entry → Loop → Float → Float → List ℕ → Case
 case es mode prev next xs = record { entries = es; mode = mode; prev = prev; next = next; listed = xs }
 
+-- one entry of 1 s
 abbrev second : List Entry
 second = lasting oneF ∷ []
 
@@ -66,6 +71,7 @@ pair = lasting zeroF ∷ lasting twoF ∷ []
 abbrev turned : List Entry
 turned = lasting twoF ∷ lasting oneF ∷ []
 
+-- the cases, with their sentences where paper 01 has one
 unfoldable pub table : List Case
 table =
     -- "`Times(2)`: play, update 1 completes none; update 1.5 then gives 1, 0"

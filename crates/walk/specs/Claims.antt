@@ -16,6 +16,7 @@ abbrev pub AllBelow : ℕ → List ℕ → Type 0
 AllBelow n [] = Unit
 AllBelow n (x ∷ xs) = (x < n) × AllBelow n xs
 
+-- all of it, which `claimed` carries
 pub record Claims : Type 0 where
   -- the worked cases hold
   pub cases : T (allHold table)

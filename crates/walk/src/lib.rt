@@ -14,7 +14,8 @@ ghost use lib.Ieee.{isNan, lt};
 ghost use Rattle.float32.specs.Helpers.{zeroF, maxF};
 ghost use Rattle.steps.specs.Times.{maxEntries, endAt, baseOf};
 ghost use Rattle.walk.specs.Completions.{cycleStart, completes, inCycle, nextCycle, breaksAt, stopsAt, cyclesFrom, limitedTo, endlessly, walkOf, firstCycle, completionsIn, completionsBetween};
-ghost use Rattle.walk.specs.Answers.{counted, over, Listed};
+ghost use Rattle.walk.specs.Answers.{counted, Listed};
+ghost use Rattle.steps.specs.Slices.{over};
 ghost use Rattle.walk.specs.Claims.{Claims};
 
 // The answer: how many completions were listed, or that they outnumber the list.
@@ -58,6 +59,7 @@ fn endless(prev: f32, next: f32, period: f32) -> Walk
     }
 }
 
+// `match self.looping`: how many cycles there are, and how long each is.
 fn walk_of(mode: Loop, base: f32, prev: f32, next: f32) -> Walk
     ensures { λ r. ⌜ r ≡ walkOf mode base prev next ⌝ }
 {
@@ -73,18 +75,21 @@ fn walk_of(mode: Loop, base: f32, prev: f32, next: f32) -> Walk
     }
 }
 
+// `(prev / period).max(0.0) as u32`
 fn first_cycle(w: Walk) -> u32
     ensures { λ r. ⌜ r ≡ firstCycle w ⌝ }
 {
     float32::to_u32(float32::max(w.prev / w.period, 0.0))
 }
 
+// `cycle as f32 * period`
 fn cycle_start(w: Walk, cycle: u32) -> f32
     ensures { λ r. ⌜ r ≡ cycleStart w cycle ⌝ }
 {
     float32::from_u32(cycle) * w.period
 }
 
+// Whether the loop breaks before this cycle.
 fn breaks_at(w: Walk, cycle: u32) -> bool
     ensures { λ r. ⌜ r ≡ breaksAt w cycle ⌝ }
 {
@@ -97,6 +102,7 @@ fn breaks_at(w: Walk, cycle: u32) -> bool
     start > w.next
 }
 
+// Whether it does after the count went on to this cycle.
 fn stops_at(w: Walk, cycle: u32) -> bool
     ensures { λ r. ⌜ r ≡ stopsAt w cycle ⌝ }
 {
@@ -106,6 +112,7 @@ fn stops_at(w: Walk, cycle: u32) -> bool
     breaks_at(w, cycle)
 }
 
+// `cycle.saturating_add(1)`
 fn next_cycle(cycle: u32) -> u32
     ensures { λ r. ⌜ r ≡ nextCycle cycle ⌝ }
 {
@@ -115,6 +122,7 @@ fn next_cycle(cycle: u32) -> u32
     4294967295
 }
 
+// `prev < completion && completion <= next`
 fn completes_in(w: Walk, start: f32, end: f32) -> bool
     ensures { λ r. ⌜ r ≡ completes w start end ⌝ }
 {
@@ -282,7 +290,7 @@ fn base_from(ends: &[f32], first: usize, folded: f32) -> f32
 }
 
 // The base of entries with these ends, by blocks of four: a block's fold need not wait for the one before.
-fn base_of(ends: &[f32]) -> f32
+pub fn base_of(ends: &[f32]) -> f32
     ensures { λ r. ⌜ r ≡ foldl maxF zeroF (now (ends .entry)) ⌝ }
 {
     let mut base: f32 = 0.0;

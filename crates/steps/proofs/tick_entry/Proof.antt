@@ -1,6 +1,8 @@
 -- `tick_entry` is `ticked`.
+use mathlib.Core.Path.{sym, _∙_}
 use Rattle.steps.specs.Rows.{ticked}
 use Rattle.steps.proofs.Tests.{yes, no}
+use Rattle.steps.proofs.Inside.{ticked-inside}
 use borrow.Author.Needs.{needs}
 use Rattle.steps.proofs.tick_entry.Statement.{statement}
 use Rattle.steps.proofs.tick_entry.Tie as tie
@@ -8,20 +10,40 @@ use Rattle.steps.proofs.tick_entry.Tie as tie
 reset-entry-requires : tie.Need-reset-entry-requires
 reset-entry-requires c κs = search needs
 
+returns : tie.Need-returns
+unfolding ticked
+returns c = yes _ _ _ _ (c .before .if1 .taken) (c .reset-entry .ensures)
+
+runs-inside-requires : tie.Need-runs-inside-requires
+runs-inside-requires c κs = search needs
+
+tick-inside-requires : tie.Need-tick-inside-requires
+tick-inside-requires c κs = search needs
+
+returns-2 : tie.Need-returns-2
+returns-2 c =
+    c .tick-inside .ensures
+    ∙ sym (ticked-inside _ _ _ _ (sym (c .before .before .runs-inside .ensures) ∙ c .before .if2 .taken))
+
 both-requires : tie.Need-both-requires
 both-requires c κs = search needs
 
 tick-in-requires : tie.Need-tick-in-requires
 tick-in-requires c κs = search needs
 
-returns : tie.Need-returns
+returns-3 : tie.Need-returns-3
 unfolding ticked
-returns c = yes _ _ _ _ (c .before .if1 .taken) (c .reset-entry .ensures)
-
-returns-2 : tie.Need-returns-2
-unfolding ticked
-returns-2 c = no _ _ _ _ (c .before .before .if1 .left) (cc)
+returns-3 c = no _ _ _ _ (c .before .before .before .before .if1 .left) (cc)
 
 pub tick-entry-spec : {M : Type 1} → statement M
 tick-entry-spec =
-    tie.close (tie.spec reset-entry-requires both-requires tick-in-requires returns returns-2)
+    tie.close
+    (tie.spec
+    reset-entry-requires
+    returns
+    runs-inside-requires
+    tick-inside-requires
+    returns-2
+    both-requires
+    tick-in-requires
+    returns-3)

@@ -1,11 +1,10 @@
 -- `apply` gives each entry the rule's step. The loop's invariant is `Written`, with its laws.
-use Prim.Native.Nat.{_≤_, _<_, _-_}
+use Prim.Native.Nat.{_-_}
 use mathlib.Core.Path.{_≡_, sym, ap, _∙_}
 use mathlib.Core.List.{map}
 use native.Mathlib.Omega.{arith}
 use borrow.Author.Needs.{needs}
 use lib.ListN.{length, length-map}
-use denote.Ref.{now}
 use Rattle.steps.specs.Rows.{ruled}
 use Rattle.steps.proofs.Lists.{unmapped, map-at}
 use Rattle.track.specs.Tracks.{live}
@@ -55,6 +54,9 @@ mul-places c = omega arith
 slice-write-places : tie.Need-slice-write-places Inv-loop μ-loop
 slice-write-places c = omega arith
 
+marked-requires : tie.Need-marked-requires Inv-loop μ-loop
+marked-requires c κs = search needs
+
 mul-m : tie.Need-mul-m Inv-loop μ-loop
 mul-m c = omega arith
 
@@ -69,14 +71,14 @@ loop-less c = omega arith
 
 loop-again : tie.Need-loop-again Inv-loop μ-loop
 loop-again c =
-    let turn = c .before in
+    let turn = c .before .before in
     let at = turn .before .before .before in
     let start = at .before .before .before .before .before in
     let t = start .args .track in
     let f = ruled (start .args .rule) in
     let here = next-entry _ _ _ _ _ _ _ _ _ _ _ (at .loop .inv) (omega arith) in
     let own = turn .step-entry .ensures ∙ ap f here ∙ sym (map-at f (live t) (at .loop .i) noEntry noStep (omega arith)) in
-    one-more _ _ _ _ _ _ _ _ _ _ _ (at .loop .inv) (omega arith) (turn .step-entry .result) own
+    rw (c .marked .ensures) (one-more _ _ _ _ _ _ _ _ _ _ _ (at .loop .inv) (omega arith) (turn .step-entry .result) own)
 
 same-length : tie.Need-same-length Inv-loop μ-loop
 same-length c = omega arith
@@ -106,6 +108,7 @@ apply-spec =
     slice-write-amounts
     mul-places
     slice-write-places
+    marked-requires
     mul-m
     element-set-from-m
     add-i

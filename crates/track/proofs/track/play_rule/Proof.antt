@@ -1,4 +1,4 @@
-use mathlib.Core.Path.{refl, sym, ap, _∙_}
+use mathlib.Core.Path.{refl, sym, _∙_}
 use Rattle.track.specs.Calls.{playRule}
 use Rattle.steps.proofs.Tests.{yes, no}
 use borrow.Author.Needs.{needs}

@@ -1,5 +1,5 @@
 -- `progress_in` is `progressIn`: each return goes by the tests that led there.
-use mathlib.Core.Path.{_≡_, refl, sym, _∙_}
+use mathlib.Core.Path.{refl, sym, _∙_}
 use Rattle.steps.proofs.Tests.{yes, no}
 use Rattle.track.specs.Tracks.{progressIn}
 use borrow.Author.Needs.{needs}

@@ -1,7 +1,5 @@
 -- `share_in` is `shareIn`.
-use mathlib.Core.Path.{_≡_, sym, _∙_}
-use mathlib.Core.Bool.{true, false}
-use Rattle.float32.specs.Helpers.{finiteF}
+use mathlib.Core.Path.{sym, _∙_}
 use Rattle.track.specs.Tracks.{shareIn}
 use borrow.Author.Needs.{needs}
 use Rattle.track.proofs.track.share_in.Statement.{statement}

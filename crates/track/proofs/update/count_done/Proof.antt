@@ -6,7 +6,7 @@ use mathlib.Core.Logic.{⊎-elim}
 use mathlib.Core.List.{List}
 use native.Mathlib.Omega.{arith}
 use borrow.Author.Needs.{needs}
-use lib.ListN.{length, getD, take, length-append}
+use lib.ListN.{length, getD, take}
 use Rattle.steps.specs.Times.{maxEntries}
 use Rattle.steps.proofs.Lists.{unmapped, part-at}
 use Rattle.track.specs.Updates.{ticks, newlyDone}

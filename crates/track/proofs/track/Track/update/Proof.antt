@@ -1,144 +1,411 @@
--- `update` is its step: refused by 3 or 4, else what `play_on` or `rest` leaves.
-use mathlib.Core.Path.{_≡_, _∙_}
-use Prim.Native.Nat.{ℕ}
-use mathlib.Core.Bool.{false}
+-- `update` is its step: refused by 3 or 4; while it ticks, refused by 5 or each entry's step; else what its course is. The loops'
+-- invariants are `Ended`, and `Written` and `Listing`.
+use Prim.Native.Nat.{_≤_, _-_}
+use mathlib.Core.Path.{_≡_, refl, sym, ap, _∙_}
+use mathlib.Core.Bool.{false, not, _&&_}
 use mathlib.Core.List.{List}
-use Rattle.track.specs.Calls.{Room, roomOf, short}
-use Rattle.track.specs.Updates.{repliesBad}
-use Rattle.track.specs.declared.track.Track.{Track}
-use Rattle.track.proofs.Checks.{room-left, replies-left, short-same, bad-same, too-short, bad, plays-on, rests-on}
+use mathlib.Core.Logic.{⊎-elim}
+use native.Mathlib.Omega.{arith}
 use borrow.Author.Needs.{needs}
+use borrow.Author.Tests.{ltb-false}
+use lib.ListN.{length, getD}
+use Rattle.steps.proofs.Lists.{unmapped}
+use Rattle.steps.specs.Times.{maxEntries}
+use Rattle.steps.specs.declared.Stepped.{Stepped}
+use Rattle.track.specs.Tracks.{live, trackBase}
+use Rattle.track.specs.Updates.{ticks}
+use Rattle.track.specs.Courses.{reachedFrom}
+use Rattle.track.specs.declared.track.Track.{Track}
+use Rattle.track.specs.declared.update.Answer.{Answer}
+use Rattle.clock.specs.declared.Clock.{Clock}
+use Rattle.track.specs.Calls.{roomOf, short}
+use Rattle.track.specs.Updates.{repliesBad}
+use Rattle.track.proofs.Written.{noEntry, noStep, withEntries, Written, same-mark, none-written, next-entry, one-more, one-kept, all-written}
+use Rattle.track.proofs.Based.{Ended, none-ended, one-ended, ended-part, ended-base}
+use Rattle.track.proofs.Checks.{checks-passed, room-for, room-left, replies-left, unchecked, accepting}
+use Rattle.track.proofs.Updating.{answered, tick-refused, tick-answered}
+use Rattle.track.proofs.Courses.{out-tick, coursed, course-refused, course-answered}
+use Rattle.track.proofs.Ticks.{length-ticks, turn-at, Listing, none-listed, room-listed, one-listed, all-listed}
 use Rattle.track.proofs.track.Track.update.Statement.{statement}
 use Rattle.track.proofs.track.Track.update.Tie as tie
 
-entry-count-requires : tie.Need-entry-count-requires
+abbrev Inv-loop : tie.InvT-loop
+Inv-loop self dt replies list kinds amounts places n mode clock entries no' ends₀ i₀ ends i = Ended self n ends i
+
+abbrev μ-loop : tie.MeasureT-loop
+μ-loop self dt replies list kinds amounts places n mode clock entries no' ends₀ i₀ ends i = n - i
+
+abbrev Inv-loop2 : tie.InvT-loop2
+Inv-loop2 self dt replies list₀ kinds₀ amounts₀ places₀ n mode clock entries₀ no' i base p to end listed₀ j₀ list kinds amounts places entries listed j =
+    (n ≤ length replies)
+    × Written self (ticks (p .from) end (live self) replies) kinds₀ amounts₀ places₀ n (withEntries self entries) kinds amounts places j
+    × Listing (live self) (ticks (p .from) end (live self) replies) list₀ list listed j
+
+abbrev μ-loop2 : tie.MeasureT-loop2
+μ-loop2 self dt replies list₀ kinds₀ amounts₀ places₀ n mode clock entries₀ no' i base p to end listed₀ j₀ list kinds amounts places entries listed j = n - j
+
+entry-count-requires : tie.Need-entry-count-requires Inv-loop μ-loop Inv-loop2 μ-loop2
 entry-count-requires c κs = search needs
 
-rows-short-requires : tie.Need-rows-short-requires
-rows-short-requires c κs = search needs
+checked-requires : tie.Need-checked-requires Inv-loop μ-loop Inv-loop2 μ-loop2
+checked-requires c κs = search needs
 
-refused-requires : tie.Need-refused-requires
-refused-requires c κs = search needs
+stopped-requires : tie.Need-stopped-requires Inv-loop μ-loop Inv-loop2 μ-loop2
+stopped-requires c κs = search needs
 
-returns : tie.Need-returns
+loop-holds : tie.Need-loop-holds Inv-loop μ-loop Inv-loop2 μ-loop2
+loop-holds c =
+    let counted = c .before .before .before .before .before in
+    let t = counted .before .before .before .before .before .before .args .self in
+    let long : length (t .entries) ≡ maxEntries = search (unmapped, needs) in
+    none-ended t _ _ (counted .entry-count .ensures) long (search needs)
+
+mul-end-at : tie.Need-mul-end-at Inv-loop μ-loop Inv-loop2 μ-loop2
+mul-end-at c = omega arith
+
+array-copy-out-end-at : tie.Need-array-copy-out-end-at Inv-loop μ-loop Inv-loop2 μ-loop2
+array-copy-out-end-at c = omega arith
+
+end-at-requires : tie.Need-end-at-requires Inv-loop μ-loop Inv-loop2 μ-loop2
+end-at-requires c κs = search needs
+
+mul-ends : tie.Need-mul-ends Inv-loop μ-loop Inv-loop2 μ-loop2
+mul-ends c = omega arith
+
+array-write-ends : tie.Need-array-write-ends Inv-loop μ-loop Inv-loop2 μ-loop2
+array-write-ends c = omega arith
+
+add-i : tie.Need-add-i Inv-loop μ-loop Inv-loop2 μ-loop2
+add-i c = omega arith
+
+loop-less : tie.Need-loop-less Inv-loop μ-loop Inv-loop2 μ-loop2
+loop-less c = omega arith
+
+loop-again : tie.Need-loop-again Inv-loop μ-loop Inv-loop2 μ-loop2
+loop-again c =
+    let at = c .before .before .before in
+    one-ended _ _ _ _ (at .loop .inv) (omega arith) (c .end-at .result) (c .end-at .ensures)
+
+array-share-prefix-ends : tie.Need-array-share-prefix-ends Inv-loop μ-loop Inv-loop2 μ-loop2
+array-share-prefix-ends c = omega arith
+
+slice-aggregate-base-of : tie.Need-slice-aggregate-base-of Inv-loop μ-loop Inv-loop2 μ-loop2
+slice-aggregate-base-of c = ended-part _ _ _ _ (c .before .before .loop .inv)
+
+base-of-requires : tie.Need-base-of-requires Inv-loop μ-loop Inv-loop2 μ-loop2
+base-of-requires c κs = search needs
+
+is-ticking-requires : tie.Need-is-ticking-requires Inv-loop μ-loop Inv-loop2 μ-loop2
+is-ticking-requires c κs = search needs
+
+passage-of-requires : tie.Need-passage-of-requires Inv-loop μ-loop Inv-loop2 μ-loop2
+passage-of-requires c κs = search needs
+
+-- past the checks: neither refuses
+passed : (c : tie.Then1 Inv-loop μ-loop Inv-loop2 μ-loop2)
+    → let g = c .before .before .before .before .before .before .before .before .before .before .before .args in (short (roomOf (g .kinds .now) (g .amounts .now) (g .places .now)) (g .self) ≡ false) × (repliesBad (g .replies .now) (g .self) ≡ false)
+passed c =
+    let g = c .before .before .before .before .before .before .before .before .before .before .before .args in
+    checks-passed (g .self) (g .replies .now) (g .kinds .now) (g .amounts .now) (g .places .now) (c .before .before .before .before .before .entry-count .ensures) (c .before .before .checked .ensures) (c .if1 .taken)
+
+-- what the ends come to is the base
+based : (c : tie.After-base-of Inv-loop μ-loop Inv-loop2 μ-loop2) → c .base-of .result ≡ trackBase (c .before .before .before .before .before .before .before .before .before .before .before .before .before .before .before .args .self)
+based c = ended-base _ _ _ _ (c .before .before .before .loop .inv) (c .before .before .loop-test .left) _ (c .base-of .ensures)
+
+outnumber-requires : tie.Need-outnumber-requires Inv-loop μ-loop Inv-loop2 μ-loop2
+outnumber-requires c κs =
+    let tested = c .before .before .before .before .before .before .before .before in
+    let g = tested .before .before .before .before .before .before .before .before .before .before .before .args in
+    replies-left (g .self) (g .replies .now) (passed tested .1)
+
+stopped-requires-2 : tie.Need-stopped-requires-2 Inv-loop μ-loop Inv-loop2 μ-loop2
+stopped-requires-2 c κs = search needs
+
+loop2-holds : tie.Need-loop2-holds Inv-loop μ-loop Inv-loop2 μ-loop2
+loop2-holds c =
+    let asked = c .before in
+    let to = asked .before .before .passage-of .result in
+    let tested = c .before .before .before .before .before .before .before .before .before .before in
+    let g = tested .before .before .before .before .before .before .before .before .before .before .before .args in
+    let t = g .self in
+    let ss = ticks (to .from) (to .to .elapsed) (live t) (g .replies .now) in
+    let e = tested .before .before .before .before .before .entry-count .ensures in
+    let room = room-for t (g .kinds .now) (g .amounts .now) (g .places .now) _ e (passed tested .0) in
+    let fits = ltb-false _ _ (sym (asked .outnumber .ensures) ∙ c .if3 .left) in (
+      omega (arith, e, replies-left t (g .replies .now) (passed tested .1)),
+      none-written t ss _ _ _ _ e (length-ticks (to .from) (to .to .elapsed) (live t) (g .replies .now)) (c .before .before .before .before .before .before .before .before .before .loop .inv .long) (room .0) (room .1 .0) (room .1 .1),
+      none-listed (live t) ss _ fits,
+    )
+
+mul-e : tie.Need-mul-e Inv-loop μ-loop Inv-loop2 μ-loop2
+mul-e c = omega arith
+
+array-copy-out-e : tie.Need-array-copy-out-e Inv-loop μ-loop Inv-loop2 μ-loop2
+array-copy-out-e c = omega arith
+
+shared-slice-read-tick-entry :
+    tie.Need-shared-slice-read-tick-entry Inv-loop μ-loop Inv-loop2 μ-loop2
+shared-slice-read-tick-entry c = omega arith
+
+tick-entry-requires : tie.Need-tick-entry-requires Inv-loop μ-loop Inv-loop2 μ-loop2
+tick-entry-requires c κs = search needs
+
+newly-done-requires : tie.Need-newly-done-requires Inv-loop μ-loop Inv-loop2 μ-loop2
+newly-done-requires c κs = search needs
+
+-- the tick's steps, and the track
+abbrev trackOf : tie.At-loop2 Inv-loop μ-loop Inv-loop2 μ-loop2 → Track
+trackOf c = c .before .before .before .before .before .before .before .before .before .before .before .before .before .before .before .before .before .before .before .before .before .before .args .self
+
+abbrev ticksOf : tie.At-loop2 Inv-loop μ-loop Inv-loop2 μ-loop2 → List Stepped
+ticksOf c =
+    let to = c .before .before .before .before .passage-of .result in
+    ticks (to .from) (to .to .elapsed) (live (trackOf c)) (c .before .before .before .before .before .before .before .before .before .before .before .before .before .before .before .before .before .before .before .before .before .before .args .replies .now)
+
+-- a turn's step is the tick's
+step-own : (c : tie.After-tick-entry Inv-loop μ-loop Inv-loop2 μ-loop2) → c .tick-entry .result ≡ getD (ticksOf (c .before .before .before .before)) (c .before .before .before .before .loop2 .j) noStep
+step-own c =
+    let at = c .before .before .before .before in
+    let to = at .before .before .before .before .passage-of .result in
+    let here = next-entry _ _ _ _ _ _ _ _ _ _ _ (at .loop2 .inv .1) (omega arith) in
+    turn-at (to .from) (to .to .elapsed) (live (trackOf at)) (at .before .before .before .before .before .before .before .before .before .before .before .before .before .before .before .before .before .before .before .before .before .before .args .replies .now) (at .loop2 .j) (omega arith) (omega arith) _ _ here (c .tick-entry .ensures)
+
+-- and so is whether the entry is newly done
+newly-own : (c : tie.After-newly-done Inv-loop μ-loop Inv-loop2 μ-loop2) → c .newly-done .result ≡ (not (getD (live (trackOf (c .before .before .before .before .before))) (c .before .before .before .before .before .loop2 .j) noEntry .done) && getD (ticksOf (c .before .before .before .before .before)) (c .before .before .before .before .before .loop2 .j) noStep .done)
+newly-own c =
+    let at = c .before .before .before .before .before in
+    let here = next-entry _ _ _ _ _ _ _ _ _ _ _ (at .loop2 .inv .1) (omega arith) in
+    let step = step-own (c .before) in
+    rw (c .newly-done .ensures, here, step)
+
+note-requires : tie.Need-note-requires Inv-loop μ-loop Inv-loop2 μ-loop2
+note-requires c κs =
+    let v = c .before .before .before .before .before .before .loop2 .inv in
+    (omega arith, room-listed _ _ _ (v .1 .each) _ _ _ (v .2) (omega arith) _ (newly-own (c .before)))
+
+slice-write-kinds : tie.Need-slice-write-kinds Inv-loop μ-loop Inv-loop2 μ-loop2
+slice-write-kinds c = omega arith
+
+mul-amounts : tie.Need-mul-amounts Inv-loop μ-loop Inv-loop2 μ-loop2
+mul-amounts c = omega arith
+
+slice-write-amounts : tie.Need-slice-write-amounts Inv-loop μ-loop Inv-loop2 μ-loop2
+slice-write-amounts c = omega arith
+
+mul-places : tie.Need-mul-places Inv-loop μ-loop Inv-loop2 μ-loop2
+mul-places c = omega arith
+
+slice-write-places : tie.Need-slice-write-places Inv-loop μ-loop Inv-loop2 μ-loop2
+slice-write-places c = omega arith
+
+marked-requires : tie.Need-marked-requires Inv-loop μ-loop Inv-loop2 μ-loop2
+marked-requires c κs = search needs
+
+mul-entries : tie.Need-mul-entries Inv-loop μ-loop Inv-loop2 μ-loop2
+mul-entries c = omega arith
+
+array-set-from-entries : tie.Need-array-set-from-entries Inv-loop μ-loop Inv-loop2 μ-loop2
+array-set-from-entries c = omega arith
+
+add-j : tie.Need-add-j Inv-loop μ-loop Inv-loop2 μ-loop2
+add-j c = omega arith
+
+loop2-less : tie.Need-loop2-less Inv-loop μ-loop Inv-loop2 μ-loop2
+loop2-less c = omega arith
+
+loop2-again : tie.Need-loop2-again Inv-loop μ-loop Inv-loop2 μ-loop2
+loop2-again c =
+    let noted = c .before .before .before .before .before .before in
+    let called = noted .before .before in
+    let at = called .before .before .before .before .before in
+    let v = at .loop2 .inv in
+    let s = called .before .tick-entry .result in
+    let own = step-own (called .before) in (
+      v .0,
+      ⊎-elim (λ w. rw (w .2, w .1 .ensures) (one-more _ _ _ _ _ _ _ _ _ _ _ (v .1) (omega arith) s own))
+          (λ w. rw (w .1) (one-kept _ _ _ _ _ _ _ _ _ _ _ (v .1) (omega arith) s own (same-mark _ _ (w .0 .left))))
+          (c .if4 .came),
+      one-listed _ _ _ (v .1 .each) _ _ _ (v .2) (omega arith) _ (newly-own called) _ _ (noted .note .ensures .1) (noted .note .ensures .0),
+    )
+
+reached-requires : tie.Need-reached-requires Inv-loop μ-loop Inv-loop2 μ-loop2
+reached-requires c κs = search needs
+
+advanced-requires : tie.Need-advanced-requires Inv-loop μ-loop Inv-loop2 μ-loop2
+advanced-requires c κs = search needs
+
+course-of-requires : tie.Need-course-of-requires Inv-loop μ-loop Inv-loop2 μ-loop2
+course-of-requires c κs =
+    let asked = c .before .before in
+    (based (asked .before), sym (asked .is-ticking .ensures) ∙ c .before .if2 .left)
+
+apply-requires : tie.Need-apply-requires Inv-loop μ-loop Inv-loop2 μ-loop2
+apply-requires c κs =
+    let tested = c .before .before .before .before .before .before .before .before .before .before .before .before .before .before .before .before in
+    let g = tested .before .before .before .before .before .before .before .before .before .before .before .args in
+    room-left (g .self) (g .kinds .now) (g .amounts .now) (g .places .now) (passed tested .0)
+
+returns : tie.Need-returns Inv-loop μ-loop Inv-loop2 μ-loop2
 returns c =
-    let tested = c .before .before in
-    let counted = tested .before in
-    let g = counted .before .before .before .before .before .before .args in
-    let s = short-same (g .self) (g .kinds .now) (g .amounts .now) (g .places .now) (counted .entry-count .ensures) (tested .rows-short .ensures) ∙ c .before .if1 .taken in
-    let h = too-short (g .self) (g .dt) (g .replies .now) (g .list .now) (g .kinds .now) (g .amounts .now) (g .places .now) s (c .refused .ensures) in
+    let then = c .before in
+    let asked = then .before in
+    let to = asked .before .before in
+    let ticking = to .before .before in
+    let tested = c .before .before .before .before .before .before .before .before .before .before .before in
+    let g = tested .before .before .before .before .before .before .before .before .before .before .before .args in
+    let t = g .self in
+    let m = to .passage-of .ensures in
+    let ok = passed tested in
+    let h = accepting t (g .dt) (g .replies .now) (g .list .now) (g .kinds .now) (g .amounts .now) (g .places .now) (ok .0) (ok .1) _ _ _ _ _ _
+    (out-tick t (g .dt) (g .replies .now) (based (ticking .before)) (ticking .is-ticking .ensures) (to .before .if2 .taken))
+    (tick-refused t _ _ (g .replies .now) (m .0) (m .1) (m .2) _ _ _ _ (asked .outnumber .ensures) (then .if3 .taken) (ap (λ (x : Answer). answered t x (t .clock) (t .entries)) (c .stopped2 .ensures))) in
     (h .answer, (h .rows, h .list))
 
-replies-bad-requires : tie.Need-replies-bad-requires
-replies-bad-requires c κs = search needs
+same-length : tie.Need-same-length Inv-loop μ-loop Inv-loop2 μ-loop2
+same-length c = omega arith
 
-refused-requires-2 : tie.Need-refused-requires-2
-refused-requires-2 c κs = search needs
+same-length-2 : tie.Need-same-length-2 Inv-loop μ-loop Inv-loop2 μ-loop2
+same-length-2 c = omega arith
 
--- past the first check
-abbrev trackOf : tie.Else1 → Track
-trackOf c = c .before .before .before .before .before .before .before .before .args .self
+same-length-3 : tie.Need-same-length-3 Inv-loop μ-loop Inv-loop2 μ-loop2
+same-length-3 c = omega arith
 
-abbrev lent : tie.Else1 → Room
-lent c =
-    let g = c .before .before .before .before .before .before .before .before .args in
-    roomOf (g .kinds .now) (g .amounts .now) (g .places .now)
+same-length-4 : tie.Need-same-length-4 Inv-loop μ-loop Inv-loop2 μ-loop2
+same-length-4 c = omega arith
 
-roomy : (c : tie.Else1) → short (lent c) (trackOf c) ≡ false
-roomy c =
-    let g = c .before .before .before .before .before .before .before .before .args in
-    short-same (g .self) (g .kinds .now) (g .amounts .now) (g .places .now) (c .before .before .entry-count .ensures) (c .before .rows-short .ensures) ∙ c .if1 .left
-
--- past the second
-abbrev repliesOf : tie.Else1 → List ℕ
-repliesOf c = c .before .before .before .before .before .before .before .before .args .replies .now
-
-replied : (c : tie.Else2) → repliesBad (repliesOf (c .before .before)) (trackOf (c .before .before)) ≡ false
-replied c = bad-same (trackOf (c .before .before)) (repliesOf (c .before .before)) (c .before .before .before .before .entry-count .ensures) (c .before .replies-bad .ensures) ∙ c .if2 .left
-
-returns-2 : tie.Need-returns-2
+returns-2 : tie.Need-returns-2 Inv-loop μ-loop Inv-loop2 μ-loop2
 returns-2 c =
-    let looked = c .before .before in
-    let s = roomy (looked .before) in
-    let g = looked .before .before .before .before .before .before .before .before .before .args in
-    let b = bad-same (g .self) (g .replies .now) (looked .before .before .before .entry-count .ensures) (looked .replies-bad .ensures) ∙ c .before .if2 .taken in
-    let h = bad (g .self) (g .dt) (g .replies .now) (g .list .now) (g .kinds .now) (g .amounts .now) (g .places .now) s b (c .refused2 .ensures) in
+    let at = c .before .before .before in
+    let else = at .before in
+    let asked = else .before in
+    let to = asked .before .before in
+    let ticking = to .before .before in
+    let tested = c .before .before .before .before .before .before .before .before .before .before .before .before .before .before in
+    let g = tested .before .before .before .before .before .before .before .before .before .before .before .args in
+    let t = g .self in
+    let m = to .passage-of .ensures in
+    let ok = passed tested in
+    let v = at .loop2 .inv in
+    let w = all-written _ _ _ _ _ _ _ _ _ _ _ (v .1) (c .before .before .loop2-test .left) in
+    let l = all-listed _ _ _ _ _ _ (v .2) (omega arith) in
+    let answer = ap (λ (x : Answer). answered t x (c .advanced .result) (at .loop2 .entries)) (c .before .reached .ensures) ∙ ap (λ (x : Clock). answered t (reachedFrom (t .clock) (to .passage-of .result .to .ended) (at .loop2 .listed)) x (at .loop2 .entries)) (c .advanced .ensures) in
+    let h = accepting t (g .dt) (g .replies .now) (g .list .now) (g .kinds .now) (g .amounts .now) (g .places .now) (ok .0) (ok .1) _ _ _ _ _ _
+    (out-tick t (g .dt) (g .replies .now) (based (ticking .before)) (ticking .is-ticking .ensures) (to .before .if2 .taken))
+    (tick-answered t _ _ (g .replies .now) (m .0) (m .1) (m .2) _ _ _ _ _ _ _ _ (asked .outnumber .ensures) (else .if3 .left) (w .0) (w .1) (l .0) (l .1) answer) in
     (h .answer, (h .rows, h .list))
 
-is-playing-requires : tie.Need-is-playing-requires
-is-playing-requires c κs = search needs
-
-play-on-requires : tie.Need-play-on-requires
-play-on-requires c κs =
-    let good = c .before .before .before .before .before .before .before in
-    let g = good .before .before .before .before .before .before .before .before .before .before .args in
-    (replies-left (g .self) (g .replies .now) (replied good), room-left (g .self) (g .kinds .now) (g .amounts .now) (g .places .now) (roomy (good .before .before)))
-
-same-length : tie.Need-same-length
-same-length c = search needs
-
-same-length-2 : tie.Need-same-length-2
-same-length-2 c = search needs
-
-same-length-3 : tie.Need-same-length-3
-same-length-3 c = search needs
-
-same-length-4 : tie.Need-same-length-4
-same-length-4 c = search needs
-
-returns-3 : tie.Need-returns-3
-returns-3 c =
-    let played = c .before .before .before .before .before .before .before .before in
-    let then = played .before .before .before .before .before in
-    let good = then .before .before .before in
-    let g = good .before .before .before .before .before .before .before .before .before .before .args in
-    let h = plays-on (g .self) (g .dt) (g .replies .now) (g .list .now) (g .kinds .now) (g .amounts .now) (g .places .now) (roomy (good .before .before)) (replied good) _ _ _ _ (then .before .is-playing .ensures) (then .if3 .taken) (played .play-on .ensures) in
-    (h .answer, (h .rows, h .list))
-
-rest-requires : tie.Need-rest-requires
-rest-requires c κs =
-    let good = c .before .before .before .before .before .before in
-    let g = good .before .before .before .before .before .before .before .before .before .before .args in
-    room-left (g .self) (g .kinds .now) (g .amounts .now) (g .places .now) (roomy (good .before .before))
-
-same-length-5 : tie.Need-same-length-5
+same-length-5 : tie.Need-same-length-5 Inv-loop μ-loop Inv-loop2 μ-loop2
 same-length-5 c = search needs
 
-same-length-6 : tie.Need-same-length-6
+same-length-6 : tie.Need-same-length-6 Inv-loop μ-loop Inv-loop2 μ-loop2
 same-length-6 c = search needs
 
-same-length-7 : tie.Need-same-length-7
+same-length-7 : tie.Need-same-length-7 Inv-loop μ-loop Inv-loop2 μ-loop2
 same-length-7 c = search needs
 
-returns-4 : tie.Need-returns-4
-returns-4 c =
-    let rested = c .before .before .before .before .before .before in
-    let other = rested .before .before .before .before in
-    let good = other .before .before .before in
-    let g = good .before .before .before .before .before .before .before .before .before .before .args in
-    let h = rests-on (g .self) (g .dt) (g .replies .now) (g .list .now) (g .kinds .now) (g .amounts .now) (g .places .now) (roomy (good .before .before)) (replied good) _ _ _ (other .before .is-playing .ensures) (other .if3 .left) (rested .rest .ensures .0) (rested .rest .ensures .1) in
+same-length-8 : tie.Need-same-length-8 Inv-loop μ-loop Inv-loop2 μ-loop2
+same-length-8 c = search needs
+
+returns-3 : tie.Need-returns-3 Inv-loop μ-loop Inv-loop2 μ-loop2
+returns-3 c =
+    let course = c .before .before .before .before .before .before .before .before .before .before .before .before .before .before .before .before .before in
+    let tested = course .before .before .before .before .before .before .before .before in
+    let g = tested .before .before .before .before .before .before .before .before .before .before .before .args in
+    let t = g .self in
+    let ok = passed tested in
+    let asked = course .before .before .before in
+    let off = sym (asked .is-ticking .ensures) ∙ course .before .before .if2 .left in
+    let e = course .course-of .ensures in
+    let k = coursed t (g .dt) (g .list .now) (e .1 .0) (e .1 .1 .0) (e .1 .1 .1) in
+    let h = accepting t (g .dt) (g .replies .now) (g .list .now) (g .kinds .now) (g .amounts .now) (g .places .now) (ok .0) (ok .1) _ _ _ _ _ _ refl
+    (course-answered t (g .dt) (g .replies .now) (based (asked .before)) off _ _ _ _ _ _ _ k _ _ _ (e .0) (c .before .before .before .before .before .before .before .before .apply .ensures .0) (c .before .before .before .before .before .before .before .before .apply .ensures .1) (c .before .before .before .before .before .before .before .before .before .before .before .before .if5 .taken)) in
     (h .answer, (h .rows, h .list))
+
+same-length-9 : tie.Need-same-length-9 Inv-loop μ-loop Inv-loop2 μ-loop2
+same-length-9 c = search needs
+
+returns-4 : tie.Need-returns-4 Inv-loop μ-loop Inv-loop2 μ-loop2
+returns-4 c =
+    let course = c .before .before .before .before .before in
+    let tested = course .before .before .before .before .before .before .before .before in
+    let g = tested .before .before .before .before .before .before .before .before .before .before .before .args in
+    let t = g .self in
+    let ok = passed tested in
+    let asked = course .before .before .before in
+    let off = sym (asked .is-ticking .ensures) ∙ course .before .before .if2 .left in
+    let e = course .course-of .ensures in
+    let k = coursed t (g .dt) (g .list .now) (e .1 .0) (e .1 .1 .0) (e .1 .1 .1) in
+    let h = accepting t (g .dt) (g .replies .now) (g .list .now) (g .kinds .now) (g .amounts .now) (g .places .now) (ok .0) (ok .1) _ _ _ _ _ _ refl
+    (course-refused t (g .dt) (g .replies .now) (based (asked .before)) off _ _ _ _ _ _ _ k (c .if5 .left)) in
+    (h .answer, (h .rows, h .list))
+
+returns-5 : tie.Need-returns-5 Inv-loop μ-loop Inv-loop2 μ-loop2
+returns-5 c =
+    let g = c .before .before .before .before .before .before .before .before .before .before .before .args in
+    let t = g .self in
+    let h = unchecked t (g .dt) (g .replies .now) (g .list .now) (g .kinds .now) (g .amounts .now) (g .places .now) (c .before .before .before .before .before .entry-count .ensures) (c .before .before .checked .ensures) (c .if1 .left) in
+    (ap (λ (x : Answer). answered t x (t .clock) (t .entries)) (c .before .stopped .ensures) ∙ h .answer, (h .rows, h .list))
 
 pub update-spec : {M : Type 1} → statement M
 update-spec =
     tie.close
     (tie.spec
+    Inv-loop
+    μ-loop
+    Inv-loop2
+    μ-loop2
     entry-count-requires
-    rows-short-requires
-    refused-requires
+    checked-requires
+    stopped-requires
+    loop-holds
+    mul-end-at
+    array-copy-out-end-at
+    end-at-requires
+    mul-ends
+    array-write-ends
+    add-i
+    loop-less
+    loop-again
+    array-share-prefix-ends
+    slice-aggregate-base-of
+    base-of-requires
+    is-ticking-requires
+    passage-of-requires
+    outnumber-requires
+    stopped-requires-2
+    loop2-holds
+    mul-e
+    array-copy-out-e
+    shared-slice-read-tick-entry
+    tick-entry-requires
+    newly-done-requires
+    note-requires
+    slice-write-kinds
+    mul-amounts
+    slice-write-amounts
+    mul-places
+    slice-write-places
+    marked-requires
+    mul-entries
+    array-set-from-entries
+    add-j
+    loop2-less
+    loop2-again
+    reached-requires
+    advanced-requires
+    course-of-requires
+    apply-requires
     returns
-    replies-bad-requires
-    refused-requires-2
-    returns-2
-    is-playing-requires
-    play-on-requires
     same-length
     same-length-2
     same-length-3
     same-length-4
-    returns-3
-    rest-requires
+    returns-2
     same-length-5
     same-length-6
     same-length-7
-    returns-4)
+    same-length-8
+    returns-3
+    same-length-9
+    returns-4
+    returns-5)
