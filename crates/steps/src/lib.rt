@@ -4,7 +4,7 @@ ghost use mathlib.Core.Path.{_≡_};
 ghost use mathlib.Core.Bool.{true, false, not, cond, _&&_, _||_};
 ghost use Prim.Native.Nat.{_≤_};
 ghost use lib.Dec.{eqb};
-ghost use lib.Ieee.{binary32, sub, rem, lt, eq};
+ghost use lib.Ieee.{binary32, sub, rem, lt, le, eq};
 ghost use Rattle.float32.specs.Helpers.{zeroF};
 ghost use Rattle.steps.specs.Times.{endAt, runIn, runOf, timesRun, timesLocal, pingPong, localIn, localTime};
 ghost use Rattle.steps.specs.Rows.{untouched, cleared, kindOf, tickRow, synced, tickedOver, tickedIn, ticked, resetFirst, ruled};
@@ -305,6 +305,24 @@ fn tick_inside(prev: f32, next: f32, e: Entry, reply: u8) -> Stepped
     tick_row(false, true, false, next - prev, done)
 }
 
+// Whether the entry has ended before the step.
+fn lies_behind(prev: f32, next: f32, e: Entry) -> bool
+    ensures { λ r. ⌜ r ≡ (lt (e .start) prev && (le (endAt e) prev && (lt (endAt e) next && not (eq (e .duration) zeroF)))) ⌝ }
+{
+    let start = e.start;
+    let duration = e.duration;
+    let end = start + duration;
+    if start < prev {
+        if end <= prev {
+            if end < next { duration != 0.0 } else { false }
+        } else {
+            false
+        }
+    } else {
+        false
+    }
+}
+
 // `tick_forward` for one entry, with its leaf's reply: 0 stopped, 1 running. Most steps lie inside the run, so these are told first.
 pub fn tick_entry(prev: f32, next: f32, e: Entry, reply: u8) -> Stepped
     ensures { λ r. ⌜ r ≡ ticked prev next e reply ⌝ }
@@ -315,6 +333,9 @@ pub fn tick_entry(prev: f32, next: f32, e: Entry, reply: u8) -> Stepped
     }
     if runs_inside(prev, next, e) {
         return tick_inside(prev, next, e, reply);
+    }
+    if lies_behind(prev, next, e) {
+        return tick_row(false, false, true, 0.0, true);
     }
     let from = prev <= start;
     let to = next >= start;

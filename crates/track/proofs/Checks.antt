@@ -17,10 +17,10 @@ use Rattle.track.specs.Updates.{aboveOne, repliesBad, playing}
 use Rattle.track.specs.Calls.{Update, Preview, roomOf, TrackOut, silent, short, fitted, rested, advancedTo, updatedIn, updated, updatedWith, previewed, trackStep, updatedBy}
 use Rattle.clock.specs.declared.TimelineState.{TimelineState}
 use Rattle.clock.specs.declared.TimelineState.the-variants.{Idle, Playing, Paused, Completed}
-use Rattle.track.specs.Courses.{checkedBy, stoppedBy}
+use Rattle.track.specs.Courses.{checkedBy, stoppedBy, answered, Answered}
 use Rattle.track.specs.declared.track.Track.{Track}
 use Rattle.track.specs.declared.track.TrackUpdated.{TrackUpdated}
-use Rattle.track.proofs.Updating.{Answered, answered, refusing, passing}
+use Rattle.track.proofs.Updating.{refusing, passing}
 
 -- ---- by the state
 

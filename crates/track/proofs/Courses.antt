@@ -9,6 +9,8 @@ use lib.ListN.{length}
 use lib.Ieee.{Float, eq}
 use Rattle.float32.specs.Helpers.{zeroF}
 use Rattle.refusal.specs.Refusal.{accepted, listTooShort}
+use Rattle.tween.specs.declared.loop_mode.Loop.{Loop}
+use Rattle.steps.proofs.Tests.{and-true}
 use Rattle.steps.specs.declared.Rule.{Rule}
 use Rattle.steps.specs.declared.Rule.the-variants.{Keep, Sync}
 use Rattle.steps.specs.Times.{localTime}
@@ -22,10 +24,10 @@ use Rattle.track.specs.Tracks.{live, trackBase, rowsOf, moved, Sent}
 use Rattle.steps.specs.Slices.{over}
 use Rattle.track.specs.Updates.{isOnce, advanced, tickedTo, syncedTo, resting, playing}
 use Rattle.track.specs.Calls.{TrackOut, unless, fitted, advancedTo, rested, updated}
-use Rattle.track.specs.Courses.{isTicking, answerIn, stoppedBy, reachedFrom, courseRule}
+use Rattle.track.specs.Courses.{isTicking, ticksFrom, answerIn, answered, Answered, stoppedBy, reachedFrom, courseRule}
 use Rattle.track.specs.declared.track.Track.{Track}
 use Rattle.track.specs.declared.update.Answer.{Answer}
-use Rattle.track.proofs.Updating.{Answered, answered, refusing, passing, plays-out, ticks-on, syncs-on, sync, walked, listed-within, listed-over}
+use Rattle.track.proofs.Updating.{refusing, passing, plays-out, ticks-on, syncs-on, sync, walked, listed-within, listed-over}
 use Rattle.track.proofs.Checks.{plays, rests}
 
 -- the outcome o, with the entries and rows that the rule leaves
@@ -42,10 +44,17 @@ ruledOut t rule o =
 
 -- ---- whether it ticks
 
-all-three : (z o p : Bool) → (not z && (o && p)) ≡ true → (z ≡ false) × (o ≡ true) × (p ≡ true)
-all-three true o p e = absurd (false≢true e)
-all-three false false p e = absurd (false≢true e)
-all-three false true p e = (refl, refl, e)
+-- a base of 0: it does not
+pub not-zero : (mode : Loop) (c : Clock) {base b₀ : Float} → base ≡ b₀ → eq base zeroF ≡ true → ticksFrom mode c b₀ ≡ false
+not-zero mode c eb e = rw (rw eb at e)
+
+-- another mode or state: it does not
+pub not-ticking : (mode : Loop) (c : Clock) (base : Float) {b : Bool} → b ≡ isTicking mode c → b ≡ false → ticksFrom mode c base ≡ false
+not-ticking mode c base eb e = go (not (eq base zeroF)) (isTicking mode c) (sym eb ∙ e)
+  where
+    go : (z b : Bool) → b ≡ false → (z && b) ≡ false
+    go true b p = p
+    go false b p = refl
 
 pub not-once : (z o p : Bool) → (not z && (o && p)) ≡ false → z ≡ false → p ≡ true → o ≡ false
 not-once z false p e ez ep = refl
@@ -74,11 +83,11 @@ module _ (t : Track) (dt : Float) (rs : List ℕ) where
     out-sync eb e en eo e₁ e₂ = out-play ∙ ap (advancedTo t) (syncs-on t dt rs eb e en refl eo e₁ e₂)
 
 -- it ticks
-pub out-tick : (t : Track) (dt : Float) (rs : List ℕ) {base : Float} → base ≡ trackBase t → {b : Bool} → b ≡ isTicking (t .looping) (t .clock) base → b ≡ true
+pub out-tick : (t : Track) (dt : Float) (rs : List ℕ) {base : Float} → base ≡ trackBase t → eq base zeroF ≡ false → {b : Bool} → b ≡ isTicking (t .looping) (t .clock) → b ≡ true
     → updated t dt rs ≡ advancedTo t (tickedTo (live t) base (t .clock .elapsed) (nextElapsed (t .clock) dt) rs)
-out-tick t dt rs {base} eb et e =
-    let h = all-three (eq base zeroF) (isOnce (t .looping)) (isPlaying (t .clock .state)) (sym et ∙ e) in
-    out-play t dt rs (h .2) ∙ ap (advancedTo t) (ticks-on t dt rs eb (h .0) refl refl (h .1))
+out-tick t dt rs eb ez et e =
+    let h = and-true (isOnce (t .looping)) (isPlaying (t .clock .state)) (sym et ∙ e) in
+    out-play t dt rs (h .1) ∙ ap (advancedTo t) (ticks-on t dt rs eb ez refl refl (h .0))
 
 -- no outcome is a refusal
 pub out-accepted : (t : Track) (dt : Float) (rs : List ℕ) → updated t dt rs .refusal ≡ accepted
@@ -104,7 +113,7 @@ module _ (t : Track) (dt : Float) where
     rule-sync eb e en ee et = rw (p, rw eb at e, et, ee, en, eb)
 
   -- what it sends is what the update sends, whatever the replies
-  pub course-out : (rs : List ℕ) → isTicking (t .looping) (t .clock) (trackBase t) ≡ false → updated t dt rs ≡ ruledOut t (courseRule t dt) (updated t dt [])
+  pub course-out : (rs : List ℕ) → ticksFrom (t .looping) (t .clock) (trackBase t) ≡ false → updated t dt rs ≡ ruledOut t (courseRule t dt) (updated t dt [])
   unfolding advancedTo rested syncedTo
   course-out rs e = go (isPlaying (t .clock .state)) (eq (trackBase t) zeroF) (isOnce (t .looping)) refl refl refl e
     where
@@ -121,6 +130,10 @@ module _ (t : Track) (dt : Float) where
           same (advancedTo t (sync t base next (advanced (t .looping) [] base next next [] .elapsed) (advanced (t .looping) [] base next next [] .ended)))
           (Sync (localTime (t .looping) base (advanced (t .looping) [] base next next [] .elapsed)))
           (out-sync t dt rs ep refl ez refl eo refl refl) (out-sync t dt [] ep refl ez refl eo refl refl) (rule-sync ep refl ez refl refl refl) refl
+
+-- the replies do not count
+pub any-replies : (t : Track) (dt : Float) (rs : List ℕ) → ticksFrom (t .looping) (t .clock) (trackBase t) ≡ false → updated t dt rs ≡ updated t dt []
+any-replies t dt rs e = course-out t dt rs e ∙ sym (course-out t dt [] e)
 
 -- ---- the answer, the clock and the list
 
@@ -159,37 +172,34 @@ coursed t dt l₀ ex ec el = record { answer = ex; clock = ec; list = el }
 
 -- ---- the whole answer
 
-module _ (t : Track) (dt : Float) (rs : List ℕ) {base : Float} (eb : base ≡ trackBase t) (en : isTicking (t .looping) (t .clock) base ≡ false) (l₀ l k₀ : List ℕ) (a₀ p₀ : List Float) (x : Answer) (c : Clock) (h : Coursed t dt l₀ l x c) where
-  off : isTicking (t .looping) (t .clock) (trackBase t) ≡ false
-  off = rw eb at en
-
+module _ (t : Track) (dt : Float) (off : ticksFrom (t .looping) (t .clock) (trackBase t) ≡ false) (l₀ l k₀ : List ℕ) (a₀ p₀ : List Float) (x : Answer) (c : Clock) (h : Coursed t dt l₀ l x c) where
   abbrev fit : Bool → TrackOut
   fit b = unless b listTooShort t (updated t dt [])
 
   -- it is refused, and nothing is written
-  pub course-refused : (x .refusal ≡ accepted → ⊥) → Answered (fitted (length l₀) t (updated t dt rs)) (answered t x (t .clock) (t .entries)) l₀ l k₀ k₀ a₀ a₀ p₀ p₀
+  pub course-refused : (x .refusal ≡ accepted → ⊥) → Answered (fitted (length l₀) t (updated t dt [])) (answered t x c (t .entries)) l₀ l k₀ k₀ a₀ a₀ p₀ p₀
   course-refused ne = go (ltb (length l₀) (length (updated t dt [] .listed))) refl
     where
-      go : (b : Bool) → ltb (length l₀) (length (updated t dt [] .listed)) ≡ b → Answered (fitted (length l₀) t (updated t dt rs)) (answered t x (t .clock) (t .entries)) l₀ l k₀ k₀ a₀ a₀ p₀ p₀
+      go : (b : Bool) → ltb (length l₀) (length (updated t dt [] .listed)) ≡ b → Answered (fitted (length l₀) t (updated t dt [])) (answered t x c (t .entries)) l₀ l k₀ k₀ a₀ a₀ p₀ p₀
       go true eb =
           let ex : x ≡ stoppedBy listTooShort = h .answer ∙ ap (λ (b : Bool). answerIn (fit b)) eb in
+          let ec : c ≡ t .clock = h .clock ∙ ap (λ (b : Bool). fit b .track .clock) eb in
           let el : l ≡ l₀ = h .list ∙ ap (λ (b : Bool). over (fit b .listed) l₀) eb in
-          let many : ltb (length l₀) (length (updated t dt rs .listed)) ≡ true = ap (λ (y : TrackOut). ltb (length l₀) (length (y .listed))) (course-out t dt rs off) ∙ eb in
-          rw el (refusing _ listTooShort t (updated t dt rs) _ l₀ k₀ a₀ p₀ many (ap (λ (y : Answer). answered t y (t .clock) (t .entries)) ex))
+          rw el (refusing _ listTooShort t (updated t dt []) _ l₀ k₀ a₀ p₀ eb (ap (λ (y : Answer). answered t y c (t .entries)) ex ∙ ap (λ (y : Clock). answered t (stoppedBy listTooShort) y (t .entries)) ec))
       go false eb = absurd (ne (ap (λ (y : Answer). y .refusal) (h .answer ∙ ap (λ (b : Bool). answerIn (fit b)) eb) ∙ out-accepted t dt []))
 
   -- every entry is sent what the rule says
   pub course-answered : (k : List ℕ) (a p : List Float) {rule : Rule} {q : Track} → rule ≡ courseRule t dt → q ≡ moved t (t .clock) (map (ruled rule) (live t)) → Sent (rowsOf (map (ruled rule) (live t))) k₀ k a₀ a p₀ p → x .refusal ≡ accepted
-      → Answered (fitted (length l₀) t (updated t dt rs)) (answered t x c (q .entries)) l₀ l k₀ k a₀ a p₀ p
+      → Answered (fitted (length l₀) t (updated t dt [])) (answered t x c (q .entries)) l₀ l k₀ k a₀ a p₀ p
   course-answered k a p {rule} {q} er eq rows n = go (ltb (length l₀) (length (updated t dt [] .listed))) refl
     where
-      go : (b : Bool) → ltb (length l₀) (length (updated t dt [] .listed)) ≡ b → Answered (fitted (length l₀) t (updated t dt rs)) (answered t x c (q .entries)) l₀ l k₀ k a₀ a p₀ p
+      go : (b : Bool) → ltb (length l₀) (length (updated t dt [] .listed)) ≡ b → Answered (fitted (length l₀) t (updated t dt [])) (answered t x c (q .entries)) l₀ l k₀ k a₀ a p₀ p
       go true eb =
           let m = ap (λ (y : Answer). y .refusal) (h .answer ∙ ap (λ (b : Bool). answerIn (fit b)) eb) in
           let f : ⊥ = omega (arith, n, m) in
           absurd f
       go false eb =
-          let o : updated t dt rs ≡ ruledOut t rule (updated t dt []) = course-out t dt rs off ∙ ap (λ (y : Rule). ruledOut t y (updated t dt [])) (sym er) in
+          let o : updated t dt [] ≡ ruledOut t rule (updated t dt []) = course-out t dt [] off ∙ ap (λ (y : Rule). ruledOut t y (updated t dt [])) (sym er) in
           let ex : x ≡ answerIn (updated t dt []) = h .answer ∙ ap (λ (b : Bool). answerIn (fit b)) eb in
           let ec : c ≡ updated t dt [] .track .clock = h .clock ∙ ap (λ (b : Bool). fit b .track .clock) eb in
           let el : l ≡ over (updated t dt [] .listed) l₀ = h .list ∙ ap (λ (b : Bool). over (fit b .listed) l₀) eb in

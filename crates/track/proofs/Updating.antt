@@ -26,10 +26,9 @@ use Rattle.steps.specs.Slices.{over}
 use Rattle.track.specs.Updates.{ticks, newlyDone, Advance, isOnce, advanced, tickedTo, syncedTo, resting, playing}
 use Rattle.track.specs.Calls.{TrackOut, silent, unless, withClock, advancedTo, fitted, updatedBy}
 use Rattle.clock.specs.declared.TimelineState.the-variants.{Playing}
+use Rattle.track.specs.Courses.{Answered}
 use Rattle.track.specs.declared.track.Track.{Track}
 use Rattle.track.specs.declared.track.TrackUpdated.{TrackUpdated}
-use Rattle.track.specs.declared.update.Answer.{Answer}
-use Rattle.clock.specs.declared.Clock.{Clock}
 
 -- the answer of an update that has sent its steps to the track k and comes to elapsed
 abbrev pub finished : Track → Float → Bool → ℕ → TrackUpdated
@@ -40,23 +39,6 @@ finished k elapsed ended listed =
       completed = ended && not (k .clock .«complete_fired»);
       listed = listed;
       track = withClock k (advancedClock (k .clock) elapsed ended);
-    }
-
--- what an update with the outcome o answers, and leaves in the lent list and the three row slices
-pub record Answered (o : TrackOut) (r : TrackUpdated) (l₀ l k₀ k : List ℕ) (a₀ a p₀ p : List Float) : Type 0 where
-  pub answer : r ≡ updatedBy o
-  pub rows : Sent (o .rows) k₀ k a₀ a p₀ p
-  pub list : l ≡ over (o .listed) l₀
-
--- the answer x, with this clock and these entries
-abbrev pub answered : Track → Answer → Clock → List Entry → TrackUpdated
-answered t x c es =
-    record {
-      refusal = x .refusal;
-      running = x .running;
-      completed = x .completed;
-      listed = x .listed;
-      track = record { count = t .count; entries = es; clock = c; looping = t .looping };
     }
 
 -- ---- refused or not

@@ -26,7 +26,7 @@ ghost use Rattle.track.specs.Tracks.{live, trackBase, rowsOf, Sent};
 ghost use Rattle.steps.specs.Slices.{over};
 ghost use Rattle.track.specs.Updates.{isOnce, aboveOne, ticks, newlyDone, advanced, playing};
 ghost use Rattle.track.specs.Calls.{Update, Preview, roomOf, updated, fitted, trackStep, updatedBy};
-ghost use Rattle.track.specs.Courses.{isTicking, checkedBy, stoppedBy, reachedFrom, restingIn, answerIn, courseRule};
+ghost use Rattle.track.specs.Courses.{isTicking, ticksFrom, checkedBy, stoppedBy, reachedFrom, restingIn, answerIn, answered, Answered, courseRule};
 ghost use Rattle.track.specs.Claims.{Claims};
 
 // Where an update comes to: the elapsed time, and whether the run ends there.
@@ -40,6 +40,13 @@ struct Course {
     rule: Rule,
     answer: Answer,
     clock: Clock,
+}
+
+// What an update that does not tick answers and leaves.
+struct Passed {
+    answer: Answer,
+    clock: Clock,
+    entries: [Entry; MAX_ENTRIES],
 }
 
 // Where a tick goes from, and where it comes to.
@@ -153,13 +160,10 @@ fn reach_in(mode: Loop, base: f32, next: f32) -> Reach
     }
 }
 
-// Whether an update ticks: Playing in Once, with a base that is not 0.
-fn is_ticking(mode: Loop, clock: Clock, base: f32) -> bool
-    ensures { λ r. ⌜ r ≡ isTicking mode clock base ⌝ }
+// Whether an update ticks, where the base is not 0: Playing in Once.
+fn is_ticking(mode: Loop, clock: Clock) -> bool
+    ensures { λ r. ⌜ r ≡ isTicking mode clock ⌝ }
 {
-    if base == 0.0 {
-        return false;
-    }
     let state = clock.state;
     steps::both(is_once(mode), clock::is_playing(state))
 }
@@ -279,7 +283,7 @@ fn looped(track: Track, base: f32, dt: f32, list: &mut [u8]) -> Course
 
 // The course of an update that does not tick. While Playing, a base of 0 completes at once.
 fn course_of(track: Track, base: f32, dt: f32, list: &mut [u8]) -> Course
-    requires { ⌜ (base ≡ trackBase track) × (isTicking (track .looping) (track .clock) base ≡ false) ⌝ }
+    requires { ⌜ (base ≡ trackBase track) × (ticksFrom (track .looping) (track .clock) base ≡ false) ⌝ }
     ensures { λ r. ⌜ r .rule ≡ courseRule track dt ⌝ }
     ensures { λ r. ⌜ r .answer ≡ answerIn (fitted (length (now (list .entry))) track (updated track dt [])) ⌝ }
     ensures { λ r. ⌜ r .clock ≡ fitted (length (now (list .entry))) track (updated track dt []) .track .clock ⌝ }
@@ -304,6 +308,43 @@ fn course_of(track: Track, base: f32, dt: f32, list: &mut [u8]) -> Course
         rule: Rule::Keep,
         answer,
         clock: c,
+    }
+}
+
+// An update that does not tick: the rows of its course, if it is not refused.
+fn pass(
+    track: Track,
+    dt: f32,
+    list: &mut [u8],
+    kinds: &mut [u8],
+    amounts: &mut [f32],
+    places: &mut [f32],
+) -> Passed
+    requires { ⌜ ticksFrom (track .looping) (track .clock) (trackBase track) ≡ false ⌝ }
+    requires { ⌜ length (live track) ≤ length (now kinds) ⌝ }
+    requires { ⌜ length (live track) ≤ length (now amounts) ⌝ }
+    requires { ⌜ length (live track) ≤ length (now places) ⌝ }
+    ensures { λ r. ⌜ Answered (fitted (length (now (list .entry))) track (updated track dt [])) (answered track (r .answer) (r .clock) (r .entries)) (now (list .entry)) (now (list .exit)) (now (kinds .entry)) (now (kinds .exit)) (now (amounts .entry)) (now (amounts .exit)) (now (places .entry)) (now (places .exit)) ⌝ }
+{
+    let base = track.duration();
+    let w = course_of(track, base, dt, list);
+    let answer = w.answer;
+    let clock = w.clock;
+    if answer.refusal == refusal::ACCEPTED {
+        let rule = w.rule;
+        let q = apply(track, rule, kinds, amounts, places);
+        let entries = q.entries;
+        return Passed {
+            answer,
+            clock,
+            entries,
+        };
+    }
+    let entries = track.entries;
+    Passed {
+        answer,
+        clock,
+        entries,
     }
 }
 
@@ -384,50 +425,53 @@ impl Track {
         let no = checked(n, replies, kinds.len(), amounts.len(), places.len());
         let mut a = stopped(no);
         if no == refusal::ACCEPTED {
-            // the base
-            let mut ends = [0.0f32; MAX_ENTRIES];
-            let mut i = 0usize;
-            while i < n {
-                ends[i] = steps::end_at(entries[i]);
-                i += 1;
-            }
-            let base = walk::base_of(&ends[..n]);
-            if is_ticking(mode, clock, base) {
-                let p = passage_of(clock, base, dt);
-                let to = p.to;
-                let end = to.elapsed;
-                if outnumber(self, p.from, end, replies, list.len()) {
-                    a = stopped(refusal::LIST_TOO_SHORT);
+            if is_ticking(mode, clock) {
+                // the base
+                let mut ends = [0.0f32; MAX_ENTRIES];
+                let mut i = 0usize;
+                while i < n {
+                    ends[i] = steps::end_at(entries[i]);
+                    i += 1;
+                }
+                let base = walk::base_of(&ends[..n]);
+                if base == 0.0 {
+                    let w = pass(self, dt, list, kinds, amounts, places);
+                    a = w.answer;
+                    clock = w.clock;
+                    entries = w.entries;
                 } else {
-                    // `tick_forward`
-                    let mut listed = 0usize;
-                    let mut j = 0usize;
-                    while j < n {
-                        let e = entries[j];
-                        let s = steps::tick_entry(p.from, end, e, replies[j]);
-                        let newly = newly_done(e, s);
-                        listed = note(list, listed, newly, j);
-                        let row = s.row;
-                        kinds[j] = row.kind;
-                        amounts[j] = row.amount;
-                        places[j] = row.place;
-                        if s.done != e.done {
-                            entries[j] = marked(e, s.done);
+                    let p = passage_of(clock, base, dt);
+                    let to = p.to;
+                    let end = to.elapsed;
+                    if outnumber(self, p.from, end, replies, list.len()) {
+                        a = stopped(refusal::LIST_TOO_SHORT);
+                    } else {
+                        // `tick_forward`
+                        let mut listed = 0usize;
+                        let mut j = 0usize;
+                        while j < n {
+                            let e = entries[j];
+                            let s = steps::tick_entry(p.from, end, e, replies[j]);
+                            let newly = newly_done(e, s);
+                            listed = note(list, listed, newly, j);
+                            let row = s.row;
+                            kinds[j] = row.kind;
+                            amounts[j] = row.amount;
+                            places[j] = row.place;
+                            if s.done != e.done {
+                                entries[j] = marked(e, s.done);
+                            }
+                            j += 1;
                         }
-                        j += 1;
+                        a = reached(clock, to.ended, listed);
+                        clock = clock.advanced(end, to.ended);
                     }
-                    a = reached(clock, to.ended, listed);
-                    clock = clock.advanced(end, to.ended);
                 }
             } else {
-                let w = course_of(self, base, dt, list);
+                let w = pass(self, dt, list, kinds, amounts, places);
                 a = w.answer;
-                if a.refusal == refusal::ACCEPTED {
-                    let rule = w.rule;
-                    let q = apply(self, rule, kinds, amounts, places);
-                    entries = q.entries;
-                    clock = w.clock;
-                }
+                clock = w.clock;
+                entries = w.entries;
             }
         }
         let track = Track {

@@ -2,7 +2,7 @@
 use mathlib.Core.Path.{sym, _∙_}
 use Rattle.steps.specs.Rows.{ticked}
 use Rattle.steps.proofs.Tests.{yes, no}
-use Rattle.steps.proofs.Inside.{ticked-inside}
+use Rattle.steps.proofs.Inside.{ticked-inside, ticked-behind}
 use borrow.Author.Needs.{needs}
 use Rattle.steps.proofs.tick_entry.Statement.{statement}
 use Rattle.steps.proofs.tick_entry.Tie as tie
@@ -25,15 +25,26 @@ returns-2 c =
     c .tick-inside .ensures
     ∙ sym (ticked-inside _ _ _ _ (sym (c .before .before .runs-inside .ensures) ∙ c .before .if2 .taken))
 
+lies-behind-requires : tie.Need-lies-behind-requires
+lies-behind-requires c κs = search needs
+
+tick-row-requires : tie.Need-tick-row-requires
+tick-row-requires c κs = search needs
+
+returns-3 : tie.Need-returns-3
+returns-3 c =
+    c .tick-row .ensures
+    ∙ sym (ticked-behind _ _ _ _ (c .before .before .before .before .before .if1 .left) (sym (c .before .before .lies-behind .ensures) ∙ c .before .if3 .taken))
+
 both-requires : tie.Need-both-requires
 both-requires c κs = search needs
 
 tick-in-requires : tie.Need-tick-in-requires
 tick-in-requires c κs = search needs
 
-returns-3 : tie.Need-returns-3
+returns-4 : tie.Need-returns-4
 unfolding ticked
-returns-3 c = no _ _ _ _ (c .before .before .before .before .if1 .left) (cc)
+returns-4 c = no _ _ _ _ (c .before .before .before .before .before .before .if1 .left) (cc)
 
 pub tick-entry-spec : {M : Type 1} → statement M
 tick-entry-spec =
@@ -44,6 +55,9 @@ tick-entry-spec =
     runs-inside-requires
     tick-inside-requires
     returns-2
+    lies-behind-requires
+    tick-row-requires
+    returns-3
     both-requires
     tick-in-requires
-    returns-3)
+    returns-4)

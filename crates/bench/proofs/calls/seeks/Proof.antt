@@ -31,6 +31,24 @@ slice-aggregate-seek-3 c = search needs
 seek-requires : tie.Need-seek-requires Inv-loop μ-loop
 seek-requires c κs = search needs
 
+array-read-is-row : tie.Need-array-read-is-row Inv-loop μ-loop
+array-read-is-row c = search needs
+
+array-read-is-row-2 : tie.Need-array-read-is-row-2 Inv-loop μ-loop
+array-read-is-row-2 c = search needs
+
+array-read-is-row-3 : tie.Need-array-read-is-row-3 Inv-loop μ-loop
+array-read-is-row-3 c = search needs
+
+is-row-requires : tie.Need-is-row-requires Inv-loop μ-loop
+is-row-requires c κs = search needs
+
+elapsed-requires : tie.Need-elapsed-requires Inv-loop μ-loop
+elapsed-requires c κs = search needs
+
+returns : tie.Need-returns Inv-loop μ-loop
+returns c = search needs
+
 add-turn : tie.Need-add-turn Inv-loop μ-loop
 add-turn c = search needs
 
@@ -40,11 +58,11 @@ loop-less c = search needs
 loop-again : tie.Need-loop-again Inv-loop μ-loop
 loop-again c = search needs
 
-elapsed-requires : tie.Need-elapsed-requires Inv-loop μ-loop
-elapsed-requires c κs = search needs
+elapsed-requires-2 : tie.Need-elapsed-requires-2 Inv-loop μ-loop
+elapsed-requires-2 c κs = search needs
 
-returns : tie.Need-returns Inv-loop μ-loop
-returns c = search needs
+returns-2 : tie.Need-returns-2 Inv-loop μ-loop
+returns-2 c = search needs
 
 pub seeks-spec : {M : Type 1} → statement M
 seeks-spec =
@@ -58,8 +76,14 @@ seeks-spec =
     slice-aggregate-seek-2
     slice-aggregate-seek-3
     seek-requires
+    array-read-is-row
+    array-read-is-row-2
+    array-read-is-row-3
+    is-row-requires
+    elapsed-requires
+    returns
     add-turn
     loop-less
     loop-again
-    elapsed-requires
-    returns)
+    elapsed-requires-2
+    returns-2)

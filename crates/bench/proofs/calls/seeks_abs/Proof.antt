@@ -31,6 +31,21 @@ slice-aggregate-seek-abs-3 c = search needs
 seek-abs-requires : tie.Need-seek-abs-requires Inv-loop μ-loop
 seek-abs-requires c κs = search needs
 
+array-read-is-row : tie.Need-array-read-is-row Inv-loop μ-loop
+array-read-is-row c = search needs
+
+array-read-is-row-2 : tie.Need-array-read-is-row-2 Inv-loop μ-loop
+array-read-is-row-2 c = search needs
+
+array-read-is-row-3 : tie.Need-array-read-is-row-3 Inv-loop μ-loop
+array-read-is-row-3 c = search needs
+
+is-row-requires : tie.Need-is-row-requires Inv-loop μ-loop
+is-row-requires c κs = search needs
+
+returns : tie.Need-returns Inv-loop μ-loop
+returns c = search needs
+
 add-turn : tie.Need-add-turn Inv-loop μ-loop
 add-turn c = search needs
 
@@ -40,8 +55,8 @@ loop-less c = search needs
 loop-again : tie.Need-loop-again Inv-loop μ-loop
 loop-again c = search needs
 
-returns : tie.Need-returns Inv-loop μ-loop
-returns c = search needs
+returns-2 : tie.Need-returns-2 Inv-loop μ-loop
+returns-2 c = search needs
 
 pub seeks-abs-spec : {M : Type 1} → statement M
 seeks-abs-spec =
@@ -55,7 +70,12 @@ seeks-abs-spec =
     slice-aggregate-seek-abs-2
     slice-aggregate-seek-abs-3
     seek-abs-requires
+    array-read-is-row
+    array-read-is-row-2
+    array-read-is-row-3
+    is-row-requires
+    returns
     add-turn
     loop-less
     loop-again
-    returns)
+    returns-2)

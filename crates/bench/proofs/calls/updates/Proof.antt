@@ -34,6 +34,33 @@ slice-aggregate-update-5 c = search needs
 update-requires : tie.Need-update-requires Inv-loop μ-loop
 update-requires c κs = search needs
 
+array-read-is-row : tie.Need-array-read-is-row Inv-loop μ-loop
+array-read-is-row c = search needs
+
+array-read-is-row-2 : tie.Need-array-read-is-row-2 Inv-loop μ-loop
+array-read-is-row-2 c = search needs
+
+array-read-is-row-3 : tie.Need-array-read-is-row-3 Inv-loop μ-loop
+array-read-is-row-3 c = search needs
+
+is-row-requires : tie.Need-is-row-requires Inv-loop μ-loop
+is-row-requires c κs = search needs
+
+elapsed-requires : tie.Need-elapsed-requires Inv-loop μ-loop
+elapsed-requires c κs = search needs
+
+returns : tie.Need-returns Inv-loop μ-loop
+returns c = search needs
+
+array-read-if2 : tie.Need-array-read-if2 Inv-loop μ-loop
+array-read-if2 c = search needs
+
+elapsed-requires-2 : tie.Need-elapsed-requires-2 Inv-loop μ-loop
+elapsed-requires-2 c κs = search needs
+
+returns-2 : tie.Need-returns-2 Inv-loop μ-loop
+returns-2 c = search needs
+
 played-requires : tie.Need-played-requires Inv-loop μ-loop
 played-requires c κs = search needs
 
@@ -46,11 +73,11 @@ loop-less c = search needs
 loop-again : tie.Need-loop-again Inv-loop μ-loop
 loop-again c = search needs
 
-elapsed-requires : tie.Need-elapsed-requires Inv-loop μ-loop
-elapsed-requires c κs = search needs
+elapsed-requires-3 : tie.Need-elapsed-requires-3 Inv-loop μ-loop
+elapsed-requires-3 c κs = search needs
 
-returns : tie.Need-returns Inv-loop μ-loop
-returns c = search needs
+returns-3 : tie.Need-returns-3 Inv-loop μ-loop
+returns-3 c = search needs
 
 pub updates-spec : {M : Type 1} → statement M
 updates-spec =
@@ -65,9 +92,18 @@ updates-spec =
     slice-aggregate-update-4
     slice-aggregate-update-5
     update-requires
+    array-read-is-row
+    array-read-is-row-2
+    array-read-is-row-3
+    is-row-requires
+    elapsed-requires
+    returns
+    array-read-if2
+    elapsed-requires-2
+    returns-2
     played-requires
     add-turn
     loop-less
     loop-again
-    elapsed-requires
-    returns)
+    elapsed-requires-3
+    returns-3)

@@ -1,7 +1,7 @@
--- `update` is its step: refused by 3 or 4; while it ticks, refused by 5 or each entry's step; else what its course is. The loops'
+-- `update` is its step: refused by 3 or 4; while it ticks, refused by 5 or each entry's step; else what `pass` does. The loops'
 -- invariants are `Ended`, and `Written` and `Listing`.
 use Prim.Native.Nat.{_≤_, _-_}
-use mathlib.Core.Path.{_≡_, refl, sym, ap, _∙_}
+use mathlib.Core.Path.{_≡_, sym, ap, _∙_}
 use mathlib.Core.Bool.{false, not, _&&_}
 use mathlib.Core.List.{List}
 use mathlib.Core.Logic.{⊎-elim}
@@ -13,18 +13,17 @@ use Rattle.steps.proofs.Lists.{unmapped}
 use Rattle.steps.specs.Times.{maxEntries}
 use Rattle.steps.specs.declared.Stepped.{Stepped}
 use Rattle.track.specs.Tracks.{live, trackBase}
-use Rattle.track.specs.Updates.{ticks}
-use Rattle.track.specs.Courses.{reachedFrom}
+use Rattle.track.specs.Updates.{ticks, repliesBad}
+use Rattle.track.specs.Courses.{ticksFrom, reachedFrom, answered}
 use Rattle.track.specs.declared.track.Track.{Track}
 use Rattle.track.specs.declared.update.Answer.{Answer}
 use Rattle.clock.specs.declared.Clock.{Clock}
 use Rattle.track.specs.Calls.{roomOf, short}
-use Rattle.track.specs.Updates.{repliesBad}
 use Rattle.track.proofs.Written.{noEntry, noStep, withEntries, Written, same-mark, none-written, next-entry, one-more, one-kept, all-written}
 use Rattle.track.proofs.Based.{Ended, none-ended, one-ended, ended-part, ended-base}
 use Rattle.track.proofs.Checks.{checks-passed, room-for, room-left, replies-left, unchecked, accepting}
-use Rattle.track.proofs.Updating.{answered, tick-refused, tick-answered}
-use Rattle.track.proofs.Courses.{out-tick, coursed, course-refused, course-answered}
+use Rattle.track.proofs.Updating.{tick-refused, tick-answered}
+use Rattle.track.proofs.Courses.{not-zero, not-ticking, any-replies, out-tick}
 use Rattle.track.proofs.Ticks.{length-ticks, turn-at, Listing, none-listed, room-listed, one-listed, all-listed}
 use Rattle.track.proofs.track.Track.update.Statement.{statement}
 use Rattle.track.proofs.track.Track.update.Tie as tie
@@ -53,9 +52,12 @@ checked-requires c κs = search needs
 stopped-requires : tie.Need-stopped-requires Inv-loop μ-loop Inv-loop2 μ-loop2
 stopped-requires c κs = search needs
 
+is-ticking-requires : tie.Need-is-ticking-requires Inv-loop μ-loop Inv-loop2 μ-loop2
+is-ticking-requires c κs = search needs
+
 loop-holds : tie.Need-loop-holds Inv-loop μ-loop Inv-loop2 μ-loop2
 loop-holds c =
-    let counted = c .before .before .before .before .before in
+    let counted = c .before .before .before .before .before .before .before in
     let t = counted .before .before .before .before .before .before .args .self in
     let long : length (t .entries) ≡ maxEntries = search (unmapped, needs) in
     none-ended t _ _ (counted .entry-count .ensures) long (search needs)
@@ -95,12 +97,6 @@ slice-aggregate-base-of c = ended-part _ _ _ _ (c .before .before .loop .inv)
 base-of-requires : tie.Need-base-of-requires Inv-loop μ-loop Inv-loop2 μ-loop2
 base-of-requires c κs = search needs
 
-is-ticking-requires : tie.Need-is-ticking-requires Inv-loop μ-loop Inv-loop2 μ-loop2
-is-ticking-requires c κs = search needs
-
-passage-of-requires : tie.Need-passage-of-requires Inv-loop μ-loop Inv-loop2 μ-loop2
-passage-of-requires c κs = search needs
-
 -- past the checks: neither refuses
 passed : (c : tie.Then1 Inv-loop μ-loop Inv-loop2 μ-loop2)
     → let g = c .before .before .before .before .before .before .before .before .before .before .before .args in (short (roomOf (g .kinds .now) (g .amounts .now) (g .places .now)) (g .self) ≡ false) × (repliesBad (g .replies .now) (g .self) ≡ false)
@@ -109,12 +105,29 @@ passed c =
     checks-passed (g .self) (g .replies .now) (g .kinds .now) (g .amounts .now) (g .places .now) (c .before .before .before .before .before .entry-count .ensures) (c .before .before .checked .ensures) (c .if1 .taken)
 
 -- what the ends come to is the base
-based : (c : tie.After-base-of Inv-loop μ-loop Inv-loop2 μ-loop2) → c .base-of .result ≡ trackBase (c .before .before .before .before .before .before .before .before .before .before .before .before .before .before .before .args .self)
+based : (c : tie.After-base-of Inv-loop μ-loop Inv-loop2 μ-loop2) → c .base-of .result ≡ trackBase (c .before .before .before .before .before .before .before .before .before .before .before .before .before .before .before .before .before .args .self)
 based c = ended-base _ _ _ _ (c .before .before .before .loop .inv) (c .before .before .loop-test .left) _ (c .base-of .ensures)
+
+-- it does not tick: at a base of 0, and in another mode or state
+at-zero : (c : tie.Then3 Inv-loop μ-loop Inv-loop2 μ-loop2) → let t = c .before .before .before .before .before .before .before .before .before .before .before .before .before .before .before .before .before .before .args .self in ticksFrom (t .looping) (t .clock) (trackBase t) ≡ false
+at-zero c = let t = c .before .before .before .before .before .before .before .before .before .before .before .before .before .before .before .before .before .before .args .self in not-zero (t .looping) (t .clock) (based (c .before)) (c .if3 .taken)
+
+off : (c : tie.Else2 Inv-loop μ-loop Inv-loop2 μ-loop2) → let t = c .before .before .before .before .before .before .before .before .before .before .before .before .before .args .self in ticksFrom (t .looping) (t .clock) (trackBase t) ≡ false
+off c = let t = c .before .before .before .before .before .before .before .before .before .before .before .before .before .args .self in not-ticking (t .looping) (t .clock) (trackBase t) (c .before .is-ticking .ensures) (c .if2 .left)
+
+pass-requires : tie.Need-pass-requires Inv-loop μ-loop Inv-loop2 μ-loop2
+pass-requires c κs =
+    let zero = c .before .before .before .before in
+    let tested = zero .before .before .before .before .before .before .before in
+    let g = tested .before .before .before .before .before .before .before .before .before .before .before .args in
+    (at-zero zero, room-left (g .self) (g .kinds .now) (g .amounts .now) (g .places .now) (passed tested .0))
+
+passage-of-requires : tie.Need-passage-of-requires Inv-loop μ-loop Inv-loop2 μ-loop2
+passage-of-requires c κs = search needs
 
 outnumber-requires : tie.Need-outnumber-requires Inv-loop μ-loop Inv-loop2 μ-loop2
 outnumber-requires c κs =
-    let tested = c .before .before .before .before .before .before .before .before in
+    let tested = c .before .before .before .before .before .before .before .before .before in
     let g = tested .before .before .before .before .before .before .before .before .before .before .before .args in
     replies-left (g .self) (g .replies .now) (passed tested .1)
 
@@ -125,15 +138,15 @@ loop2-holds : tie.Need-loop2-holds Inv-loop μ-loop Inv-loop2 μ-loop2
 loop2-holds c =
     let asked = c .before in
     let to = asked .before .before .passage-of .result in
-    let tested = c .before .before .before .before .before .before .before .before .before .before in
+    let tested = c .before .before .before .before .before .before .before .before .before .before .before in
     let g = tested .before .before .before .before .before .before .before .before .before .before .before .args in
     let t = g .self in
     let ss = ticks (to .from) (to .to .elapsed) (live t) (g .replies .now) in
     let e = tested .before .before .before .before .before .entry-count .ensures in
     let room = room-for t (g .kinds .now) (g .amounts .now) (g .places .now) _ e (passed tested .0) in
-    let fits = ltb-false _ _ (sym (asked .outnumber .ensures) ∙ c .if3 .left) in (
+    let fits = ltb-false _ _ (sym (asked .outnumber .ensures) ∙ c .if4 .left) in (
       omega (arith, e, replies-left t (g .replies .now) (passed tested .1)),
-      none-written t ss _ _ _ _ e (length-ticks (to .from) (to .to .elapsed) (live t) (g .replies .now)) (c .before .before .before .before .before .before .before .before .before .loop .inv .long) (room .0) (room .1 .0) (room .1 .1),
+      none-written t ss _ _ _ _ e (length-ticks (to .from) (to .to .elapsed) (live t) (g .replies .now)) (c .before .before .before .before .before .before .before .before .loop .inv .long) (room .0) (room .1 .0) (room .1 .1),
       none-listed (live t) ss _ fits,
     )
 
@@ -155,12 +168,12 @@ newly-done-requires c κs = search needs
 
 -- the tick's steps, and the track
 abbrev trackOf : tie.At-loop2 Inv-loop μ-loop Inv-loop2 μ-loop2 → Track
-trackOf c = c .before .before .before .before .before .before .before .before .before .before .before .before .before .before .before .before .before .before .before .before .before .before .args .self
+trackOf c = c .before .before .before .before .before .before .before .before .before .before .before .before .before .before .before .before .before .before .before .before .before .before .before .args .self
 
 abbrev ticksOf : tie.At-loop2 Inv-loop μ-loop Inv-loop2 μ-loop2 → List Stepped
 ticksOf c =
     let to = c .before .before .before .before .passage-of .result in
-    ticks (to .from) (to .to .elapsed) (live (trackOf c)) (c .before .before .before .before .before .before .before .before .before .before .before .before .before .before .before .before .before .before .before .before .before .before .args .replies .now)
+    ticks (to .from) (to .to .elapsed) (live (trackOf c)) (c .before .before .before .before .before .before .before .before .before .before .before .before .before .before .before .before .before .before .before .before .before .before .before .args .replies .now)
 
 -- a turn's step is the tick's
 step-own : (c : tie.After-tick-entry Inv-loop μ-loop Inv-loop2 μ-loop2) → c .tick-entry .result ≡ getD (ticksOf (c .before .before .before .before)) (c .before .before .before .before .loop2 .j) noStep
@@ -168,7 +181,7 @@ step-own c =
     let at = c .before .before .before .before in
     let to = at .before .before .before .before .passage-of .result in
     let here = next-entry _ _ _ _ _ _ _ _ _ _ _ (at .loop2 .inv .1) (omega arith) in
-    turn-at (to .from) (to .to .elapsed) (live (trackOf at)) (at .before .before .before .before .before .before .before .before .before .before .before .before .before .before .before .before .before .before .before .before .before .before .args .replies .now) (at .loop2 .j) (omega arith) (omega arith) _ _ here (c .tick-entry .ensures)
+    turn-at (to .from) (to .to .elapsed) (live (trackOf at)) (at .before .before .before .before .before .before .before .before .before .before .before .before .before .before .before .before .before .before .before .before .before .before .before .args .replies .now) (at .loop2 .j) (omega arith) (omega arith) _ _ here (c .tick-entry .ensures)
 
 -- and so is whether the entry is newly done
 newly-own : (c : tie.After-newly-done Inv-loop μ-loop Inv-loop2 μ-loop2) → c .newly-done .result ≡ (not (getD (live (trackOf (c .before .before .before .before .before))) (c .before .before .before .before .before .loop2 .j) noEntry .done) && getD (ticksOf (c .before .before .before .before .before)) (c .before .before .before .before .before .loop2 .j) noStep .done)
@@ -224,7 +237,7 @@ loop2-again c =
       v .0,
       ⊎-elim (λ w. rw (w .2, w .1 .ensures) (one-more _ _ _ _ _ _ _ _ _ _ _ (v .1) (omega arith) s own))
           (λ w. rw (w .1) (one-kept _ _ _ _ _ _ _ _ _ _ _ (v .1) (omega arith) s own (same-mark _ _ (w .0 .left))))
-          (c .if4 .came),
+          (c .if5 .came),
       one-listed _ _ _ (v .1 .each) _ _ _ (v .2) (omega arith) _ (newly-own called) _ _ (noted .note .ensures .1) (noted .note .ensures .0),
     )
 
@@ -234,53 +247,71 @@ reached-requires c κs = search needs
 advanced-requires : tie.Need-advanced-requires Inv-loop μ-loop Inv-loop2 μ-loop2
 advanced-requires c κs = search needs
 
-course-of-requires : tie.Need-course-of-requires Inv-loop μ-loop Inv-loop2 μ-loop2
-course-of-requires c κs =
-    let asked = c .before .before in
-    (based (asked .before), sym (asked .is-ticking .ensures) ∙ c .before .if2 .left)
-
-apply-requires : tie.Need-apply-requires Inv-loop μ-loop Inv-loop2 μ-loop2
-apply-requires c κs =
-    let tested = c .before .before .before .before .before .before .before .before .before .before .before .before .before .before .before .before in
+pass-requires-2 : tie.Need-pass-requires-2 Inv-loop μ-loop Inv-loop2 μ-loop2
+pass-requires-2 c κs =
+    let else = c .before .before .before .before in
+    let tested = else .before .before in
     let g = tested .before .before .before .before .before .before .before .before .before .before .before .args in
-    room-left (g .self) (g .kinds .now) (g .amounts .now) (g .places .now) (passed tested .0)
+    (off else, room-left (g .self) (g .kinds .now) (g .amounts .now) (g .places .now) (passed tested .0))
+
+same-length : tie.Need-same-length Inv-loop μ-loop Inv-loop2 μ-loop2
+same-length c = search needs
+
+same-length-2 : tie.Need-same-length-2 Inv-loop μ-loop Inv-loop2 μ-loop2
+same-length-2 c = search needs
+
+same-length-3 : tie.Need-same-length-3 Inv-loop μ-loop Inv-loop2 μ-loop2
+same-length-3 c = search needs
+
+same-length-4 : tie.Need-same-length-4 Inv-loop μ-loop Inv-loop2 μ-loop2
+same-length-4 c = search needs
 
 returns : tie.Need-returns Inv-loop μ-loop Inv-loop2 μ-loop2
 returns c =
+    let zero = c .before .before .before .before .before .before .before .before .before .before .before .before .before .before .before .before in
+    let tested = c .before .before .before .before .before .before .before .before .before .before .before .before .before .before .before .before .before .before .before .before .before .before .before in
+    let g = tested .before .before .before .before .before .before .before .before .before .before .before .args in
+    let t = g .self in
+    let ok = passed tested in
+    let h = accepting t (g .dt) (g .replies .now) (g .list .now) (g .kinds .now) (g .amounts .now) (g .places .now) (ok .0) (ok .1) _ _ _ _ _ _ (any-replies t (g .dt) (g .replies .now) (at-zero zero)) (c .before .before .before .before .before .before .before .before .before .before .before .pass .ensures) in
+    (h .answer, (h .rows, h .list))
+
+returns-2 : tie.Need-returns-2 Inv-loop μ-loop Inv-loop2 μ-loop2
+returns-2 c =
     let then = c .before in
     let asked = then .before in
     let to = asked .before .before in
-    let ticking = to .before .before in
-    let tested = c .before .before .before .before .before .before .before .before .before .before .before in
+    let ticking = to .before .before .before .before .before .before in
+    let tested = ticking .before .before in
     let g = tested .before .before .before .before .before .before .before .before .before .before .before .args in
     let t = g .self in
     let m = to .passage-of .ensures in
     let ok = passed tested in
     let h = accepting t (g .dt) (g .replies .now) (g .list .now) (g .kinds .now) (g .amounts .now) (g .places .now) (ok .0) (ok .1) _ _ _ _ _ _
-    (out-tick t (g .dt) (g .replies .now) (based (ticking .before)) (ticking .is-ticking .ensures) (to .before .if2 .taken))
-    (tick-refused t _ _ (g .replies .now) (m .0) (m .1) (m .2) _ _ _ _ (asked .outnumber .ensures) (then .if3 .taken) (ap (λ (x : Answer). answered t x (t .clock) (t .entries)) (c .stopped2 .ensures))) in
+    (out-tick t (g .dt) (g .replies .now) (based (to .before .before)) (to .before .if3 .left) (ticking .before .is-ticking .ensures) (ticking .if2 .taken))
+    (tick-refused t _ _ (g .replies .now) (m .0) (m .1) (m .2) _ _ _ _ (asked .outnumber .ensures) (then .if4 .taken) (ap (λ (x : Answer). answered t x (t .clock) (t .entries)) (c .stopped2 .ensures))) in
     (h .answer, (h .rows, h .list))
 
-same-length : tie.Need-same-length Inv-loop μ-loop Inv-loop2 μ-loop2
-same-length c = omega arith
+same-length-5 : tie.Need-same-length-5 Inv-loop μ-loop Inv-loop2 μ-loop2
+same-length-5 c = omega arith
 
-same-length-2 : tie.Need-same-length-2 Inv-loop μ-loop Inv-loop2 μ-loop2
-same-length-2 c = omega arith
+same-length-6 : tie.Need-same-length-6 Inv-loop μ-loop Inv-loop2 μ-loop2
+same-length-6 c = omega arith
 
-same-length-3 : tie.Need-same-length-3 Inv-loop μ-loop Inv-loop2 μ-loop2
-same-length-3 c = omega arith
+same-length-7 : tie.Need-same-length-7 Inv-loop μ-loop Inv-loop2 μ-loop2
+same-length-7 c = omega arith
 
-same-length-4 : tie.Need-same-length-4 Inv-loop μ-loop Inv-loop2 μ-loop2
-same-length-4 c = omega arith
+same-length-8 : tie.Need-same-length-8 Inv-loop μ-loop Inv-loop2 μ-loop2
+same-length-8 c = omega arith
 
-returns-2 : tie.Need-returns-2 Inv-loop μ-loop Inv-loop2 μ-loop2
-returns-2 c =
+returns-3 : tie.Need-returns-3 Inv-loop μ-loop Inv-loop2 μ-loop2
+returns-3 c =
     let at = c .before .before .before in
     let else = at .before in
     let asked = else .before in
     let to = asked .before .before in
-    let ticking = to .before .before in
-    let tested = c .before .before .before .before .before .before .before .before .before .before .before .before .before .before in
+    let ticking = to .before .before .before .before .before .before in
+    let tested = ticking .before .before in
     let g = tested .before .before .before .before .before .before .before .before .before .before .before .args in
     let t = g .self in
     let m = to .passage-of .ensures in
@@ -288,55 +319,33 @@ returns-2 c =
     let v = at .loop2 .inv in
     let w = all-written _ _ _ _ _ _ _ _ _ _ _ (v .1) (c .before .before .loop2-test .left) in
     let l = all-listed _ _ _ _ _ _ (v .2) (omega arith) in
-    let answer = ap (λ (x : Answer). answered t x (c .advanced .result) (at .loop2 .entries)) (c .before .reached .ensures) ∙ ap (λ (x : Clock). answered t (reachedFrom (t .clock) (to .passage-of .result .to .ended) (at .loop2 .listed)) x (at .loop2 .entries)) (c .advanced .ensures) in
+    let answer = ap (λ (x : Answer). answered t x (c .advanced .result) (at .loop2 .entries)) (c .before .reached .ensures)
+    ∙ ap (λ (x : Clock). answered t (reachedFrom (t .clock) (to .passage-of .result .to .ended) (at .loop2 .listed)) x (at .loop2 .entries)) (c .advanced .ensures) in
     let h = accepting t (g .dt) (g .replies .now) (g .list .now) (g .kinds .now) (g .amounts .now) (g .places .now) (ok .0) (ok .1) _ _ _ _ _ _
-    (out-tick t (g .dt) (g .replies .now) (based (ticking .before)) (ticking .is-ticking .ensures) (to .before .if2 .taken))
-    (tick-answered t _ _ (g .replies .now) (m .0) (m .1) (m .2) _ _ _ _ _ _ _ _ (asked .outnumber .ensures) (else .if3 .left) (w .0) (w .1) (l .0) (l .1) answer) in
-    (h .answer, (h .rows, h .list))
-
-same-length-5 : tie.Need-same-length-5 Inv-loop μ-loop Inv-loop2 μ-loop2
-same-length-5 c = search needs
-
-same-length-6 : tie.Need-same-length-6 Inv-loop μ-loop Inv-loop2 μ-loop2
-same-length-6 c = search needs
-
-same-length-7 : tie.Need-same-length-7 Inv-loop μ-loop Inv-loop2 μ-loop2
-same-length-7 c = search needs
-
-same-length-8 : tie.Need-same-length-8 Inv-loop μ-loop Inv-loop2 μ-loop2
-same-length-8 c = search needs
-
-returns-3 : tie.Need-returns-3 Inv-loop μ-loop Inv-loop2 μ-loop2
-returns-3 c =
-    let course = c .before .before .before .before .before .before .before .before .before .before .before .before .before .before .before .before .before in
-    let tested = course .before .before .before .before .before .before .before .before in
-    let g = tested .before .before .before .before .before .before .before .before .before .before .before .args in
-    let t = g .self in
-    let ok = passed tested in
-    let asked = course .before .before .before in
-    let off = sym (asked .is-ticking .ensures) ∙ course .before .before .if2 .left in
-    let e = course .course-of .ensures in
-    let k = coursed t (g .dt) (g .list .now) (e .1 .0) (e .1 .1 .0) (e .1 .1 .1) in
-    let h = accepting t (g .dt) (g .replies .now) (g .list .now) (g .kinds .now) (g .amounts .now) (g .places .now) (ok .0) (ok .1) _ _ _ _ _ _ refl
-    (course-answered t (g .dt) (g .replies .now) (based (asked .before)) off _ _ _ _ _ _ _ k _ _ _ (e .0) (c .before .before .before .before .before .before .before .before .apply .ensures .0) (c .before .before .before .before .before .before .before .before .apply .ensures .1) (c .before .before .before .before .before .before .before .before .before .before .before .before .if5 .taken)) in
+    (out-tick t (g .dt) (g .replies .now) (based (to .before .before)) (to .before .if3 .left) (ticking .before .is-ticking .ensures) (ticking .if2 .taken))
+    (tick-answered t _ _ (g .replies .now) (m .0) (m .1) (m .2) _ _ _ _ _ _ _ _ (asked .outnumber .ensures) (else .if4 .left) (w .0) (w .1) (l .0) (l .1) answer) in
     (h .answer, (h .rows, h .list))
 
 same-length-9 : tie.Need-same-length-9 Inv-loop μ-loop Inv-loop2 μ-loop2
 same-length-9 c = search needs
 
+same-length-10 : tie.Need-same-length-10 Inv-loop μ-loop Inv-loop2 μ-loop2
+same-length-10 c = search needs
+
+same-length-11 : tie.Need-same-length-11 Inv-loop μ-loop Inv-loop2 μ-loop2
+same-length-11 c = search needs
+
+same-length-12 : tie.Need-same-length-12 Inv-loop μ-loop Inv-loop2 μ-loop2
+same-length-12 c = search needs
+
 returns-4 : tie.Need-returns-4 Inv-loop μ-loop Inv-loop2 μ-loop2
 returns-4 c =
-    let course = c .before .before .before .before .before in
-    let tested = course .before .before .before .before .before .before .before .before in
+    let else = c .before .before .before .before .before .before .before .before .before .before .before .before .before .before .before .before in
+    let tested = c .before .before .before .before .before .before .before .before .before .before .before .before .before .before .before .before .before .before in
     let g = tested .before .before .before .before .before .before .before .before .before .before .before .args in
     let t = g .self in
     let ok = passed tested in
-    let asked = course .before .before .before in
-    let off = sym (asked .is-ticking .ensures) ∙ course .before .before .if2 .left in
-    let e = course .course-of .ensures in
-    let k = coursed t (g .dt) (g .list .now) (e .1 .0) (e .1 .1 .0) (e .1 .1 .1) in
-    let h = accepting t (g .dt) (g .replies .now) (g .list .now) (g .kinds .now) (g .amounts .now) (g .places .now) (ok .0) (ok .1) _ _ _ _ _ _ refl
-    (course-refused t (g .dt) (g .replies .now) (based (asked .before)) off _ _ _ _ _ _ _ k (c .if5 .left)) in
+    let h = accepting t (g .dt) (g .replies .now) (g .list .now) (g .kinds .now) (g .amounts .now) (g .places .now) (ok .0) (ok .1) _ _ _ _ _ _ (any-replies t (g .dt) (g .replies .now) (off else)) (c .before .before .before .before .before .before .before .before .before .before .before .pass2 .ensures) in
     (h .answer, (h .rows, h .list))
 
 returns-5 : tie.Need-returns-5 Inv-loop μ-loop Inv-loop2 μ-loop2
@@ -357,6 +366,7 @@ update-spec =
     entry-count-requires
     checked-requires
     stopped-requires
+    is-ticking-requires
     loop-holds
     mul-end-at
     array-copy-out-end-at
@@ -369,7 +379,7 @@ update-spec =
     array-share-prefix-ends
     slice-aggregate-base-of
     base-of-requires
-    is-ticking-requires
+    pass-requires
     passage-of-requires
     outnumber-requires
     stopped-requires-2
@@ -393,13 +403,12 @@ update-spec =
     loop2-again
     reached-requires
     advanced-requires
-    course-of-requires
-    apply-requires
-    returns
+    pass-requires-2
     same-length
     same-length-2
     same-length-3
     same-length-4
+    returns
     returns-2
     same-length-5
     same-length-6
@@ -407,5 +416,8 @@ update-spec =
     same-length-8
     returns-3
     same-length-9
+    same-length-10
+    same-length-11
+    same-length-12
     returns-4
     returns-5)
