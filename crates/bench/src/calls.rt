@@ -28,7 +28,8 @@ fn played(t: Timeline) -> Timeline {
     r.timeline
 }
 
-// Whether a row is one that a call can send. Rows that nobody looked at would not be written: the compiler would leave that out.
+// Whether a row is one that a call can send. Rows that nobody looks at would not be written: the compiler would leave that out. One
+// look, after the last call, keeps the writing of every call.
 fn is_row(kind: u8, amount: f32, place: f32) -> bool {
     if kind > 13 {
         return false;
@@ -47,12 +48,13 @@ pub(crate) fn seeks_abs(from: Timeline, first: f32, base: f32, turns: u32) -> Ti
         let secs = first + float32::from_u32(turn % 1000) * 0.001 * base;
         let r = t.seek_abs(Secs(secs), &mut kinds, &mut amounts, &mut places);
         t = r.timeline;
-        if !is_row(kinds[0], amounts[0], places[0]) {
-            return t;
-        }
         turn += 1;
     }
-    t
+    if is_row(kinds[0], amounts[0], places[0]) {
+        t
+    } else {
+        from
+    }
 }
 
 // Seeks to thousandths of the run.
@@ -66,12 +68,13 @@ pub(crate) fn seeks(from: Timeline, turns: u32) -> f32 {
         let share = float32::from_u32(turn % 1000) * 0.001;
         let r = t.seek(Share(share), &mut kinds, &mut amounts, &mut places);
         t = r.timeline;
-        if !is_row(kinds[0], amounts[0], places[0]) {
-            return elapsed(t);
-        }
         turn += 1;
     }
-    elapsed(t)
+    if is_row(kinds[0], amounts[0], places[0]) {
+        elapsed(t)
+    } else {
+        0.0
+    }
 }
 
 // Updates, and `play` wherever the run ends. They may be refused by 5.
@@ -93,16 +96,17 @@ pub(crate) fn updates(from: Timeline, dt: f32, turns: u32) -> f32 {
             &mut places,
         );
         t = u.timeline;
-        if !is_row(kinds[0], amounts[0], places[0]) {
-            return elapsed(t);
-        }
-        if list[0] > 63 {
-            return elapsed(t);
-        }
         if u.completed {
             t = played(t);
         }
         turn += 1;
     }
-    elapsed(t)
+    if list[0] > 63 {
+        return 0.0;
+    }
+    if is_row(kinds[0], amounts[0], places[0]) {
+        elapsed(t)
+    } else {
+        0.0
+    }
 }

@@ -23,7 +23,7 @@ pub struct Outcome {
 }
 
 // Makes the call of this byte with this f32.
-pub fn make(t: Track, byte: u8, x: f32, list: &mut [u8; LIST]) -> Outcome
+pub(crate) fn make(t: Track, byte: u8, x: f32, list: &mut [u8; LIST]) -> Outcome
     ensures { λ r. ⌜ Made (outcome t byte x) r (now (list .entry)) (now (list .exit)) ⌝ }
 {
     match byte {
@@ -40,7 +40,7 @@ pub fn make(t: Track, byte: u8, x: f32, list: &mut [u8; LIST]) -> Outcome
 }
 
 // A call that is none leaves what plays.
-pub fn unknown(t: Track) -> Outcome
+pub(crate) fn unknown(t: Track) -> Outcome
     ensures { λ r. ⌜ r ≡ outcomeOf (silent badCall t) ⌝ }
 {
     Outcome {

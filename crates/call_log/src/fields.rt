@@ -11,14 +11,14 @@ ghost use Rattle.call_log.specs.Lines.{sheetWord, bitsField, Wrote};
 pub const LINE: usize = 1_060;
 
 // A byte as a number.
-pub fn wide(byte: u8) -> usize
+pub(crate) fn wide(byte: u8) -> usize
     ensures { λ r. ⌜ (r ≡ byte) × (r < 256) ⌝ }
 {
     byte as usize
 }
 
 // One byte.
-pub fn put_byte(line: &mut [u8], at: usize, b: u8) -> usize
+pub(crate) fn put_byte(line: &mut [u8], at: usize, b: u8) -> usize
     requires { ⌜ at < length (now line) ⌝ }
     ensures { λ r. ⌜ Wrote (b ∷ []) at (now (line .entry)) (now (line .exit)) r ⌝ }
 {
@@ -27,7 +27,7 @@ pub fn put_byte(line: &mut [u8], at: usize, b: u8) -> usize
 }
 
 // A number in decimal.
-pub fn put_decimal(line: &mut [u8], at: usize, n: usize) -> usize
+pub(crate) fn put_decimal(line: &mut [u8], at: usize, n: usize) -> usize
     requires { ⌜ at + length (decimal n) ≤ length (now line) ⌝ }
     ensures { λ r. ⌜ Wrote (decimal n) at (now (line .entry)) (now (line .exit)) r ⌝ }
 {
@@ -35,7 +35,7 @@ pub fn put_decimal(line: &mut [u8], at: usize, n: usize) -> usize
 }
 
 // A space and a number.
-pub fn put_number(line: &mut [u8], at: usize, n: usize) -> usize
+pub(crate) fn put_number(line: &mut [u8], at: usize, n: usize) -> usize
     requires { ⌜ at + 1 + length (decimal n) ≤ length (now line) ⌝ }
     ensures { λ r. ⌜ Wrote (32 ∷ decimal n) at (now (line .entry)) (now (line .exit)) r ⌝ }
 {
@@ -44,7 +44,7 @@ pub fn put_number(line: &mut [u8], at: usize, n: usize) -> usize
 }
 
 // A space and a letter.
-pub fn put_letter(line: &mut [u8], at: usize, letter: u8) -> usize
+pub(crate) fn put_letter(line: &mut [u8], at: usize, letter: u8) -> usize
     requires { ⌜ at + 2 ≤ length (now line) ⌝ }
     ensures { λ r. ⌜ Wrote (32 ∷ letter ∷ []) at (now (line .entry)) (now (line .exit)) r ⌝ }
 {
@@ -53,7 +53,7 @@ pub fn put_letter(line: &mut [u8], at: usize, letter: u8) -> usize
 }
 
 // A space and a float's bits.
-pub fn put_bits(line: &mut [u8], at: usize, x: f32) -> usize
+pub(crate) fn put_bits(line: &mut [u8], at: usize, x: f32) -> usize
     requires { ⌜ at + 9 ≤ length (now line) ⌝ }
     ensures { λ r. ⌜ Wrote (32 ∷ bitsField (toBits x)) at (now (line .entry)) (now (line .exit)) r ⌝ }
 {
@@ -62,7 +62,7 @@ pub fn put_bits(line: &mut [u8], at: usize, x: f32) -> usize
 }
 
 // The word `sheet`, at the beginning.
-pub fn put_sheet(line: &mut [u8]) -> usize
+pub(crate) fn put_sheet(line: &mut [u8]) -> usize
     requires { ⌜ 5 ≤ length (now line) ⌝ }
     ensures { λ r. ⌜ Wrote sheetWord 0 (now (line .entry)) (now (line .exit)) r ⌝ }
 {

@@ -18,7 +18,7 @@ ghost use Rattle.call_log.specs.Lines.{Refused, Called, letterOf, withFi
 ghost use Rattle.call_log.specs.Logs.{sheetLine, listSize};
 
 // The line of a sheet that is refused.
-pub fn refused(line: &mut [u8], refusal: u8) -> usize
+pub(crate) fn refused(line: &mut [u8], refusal: u8) -> usize
     requires { ⌜ lineSize ≤ length (now line) ⌝ }
     ensures { λ r. ⌜ Wrote (shown (Refused refusal)) 0 (now (line .entry)) (now (line .exit)) r ⌝ }
 {
@@ -28,7 +28,7 @@ pub fn refused(line: &mut [u8], refusal: u8) -> usize
 }
 
 // The line of a sheet that is accepted.
-pub fn accepted(line: &mut [u8], track: Track) -> usize
+pub(crate) fn accepted(line: &mut [u8], track: Track) -> usize
     requires { ⌜ lineSize ≤ length (now line) ⌝ }
     ensures { λ r. ⌜ Wrote (shown (sheetLine track)) 0 (now (line .entry)) (now (line .exit)) r ⌝ }
 {
@@ -67,7 +67,7 @@ fn put_list(line: &mut [u8], start: usize, list: &[u8], n: usize) -> usize
 }
 
 // The line of a call.
-pub fn called(
+pub(crate) fn called(
     line: &mut [u8],
     number: usize,
     track: Track,

@@ -21,7 +21,7 @@ pub struct ItemLabel {
     pub len: usize,
 }
 
-pub fn label_of(index: usize) -> ItemLabel
+pub(crate) fn label_of(index: usize) -> ItemLabel
     ensures { λ r. ⌜ (take (r .len) (r .bytes) ≡ itemLabel index) × (r .len ≤ length (r .bytes)) ⌝ }
 {
     let mut bytes = *b"item_00000000000000000000";
@@ -33,7 +33,7 @@ pub fn label_of(index: usize) -> ItemLabel
 }
 
 // A timeline with one item more.
-pub fn add(t: Timeline, index: usize, at: At, duration: f32) -> Timeline
+pub(crate) fn add(t: Timeline, index: usize, at: At, duration: f32) -> Timeline
     ensures { λ r. ⌜ r ≡ step t (Add (itemLabel index) at duration) .timeline ⌝ }
 {
     let l = label_of(index);
@@ -44,7 +44,7 @@ pub fn add(t: Timeline, index: usize, at: At, duration: f32) -> Timeline
 }
 
 // A sequence with one item more.
-pub fn then(s: Sequence, index: usize, duration: f32) -> Sequence
+pub(crate) fn then(s: Sequence, index: usize, duration: f32) -> Sequence
     ensures { λ r. ⌜ r ≡ sequenceStep s (Then (itemLabel index) duration) .sequence ⌝ }
 {
     let l = label_of(index);
@@ -55,7 +55,7 @@ pub fn then(s: Sequence, index: usize, duration: f32) -> Sequence
 }
 
 // 1 where a timeline has no room for n items.
-pub fn too_many(n: usize) -> u8
+pub(crate) fn too_many(n: usize) -> u8
     ensures { λ r. ⌜ r ≡ tooMany n ⌝ }
 {
     if n > MAX_ENTRIES {

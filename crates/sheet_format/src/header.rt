@@ -29,7 +29,7 @@ pub const RECORD_SIZE: usize = 12;
 const VERSION: u8 = 1;
 
 // Where the records of n entries start.
-pub fn records_at(n: usize) -> usize
+pub(crate) fn records_at(n: usize) -> usize
     requires { ⌜ n ≤ 255 ⌝ }
     ensures { λ r. ⌜ r ≡ recordsAt n ⌝ }
 {
@@ -37,7 +37,7 @@ pub fn records_at(n: usize) -> usize
 }
 
 // Where the labels of n entries start.
-pub fn labels_at(n: usize) -> usize
+pub(crate) fn labels_at(n: usize) -> usize
     requires { ⌜ n ≤ 255 ⌝ }
     ensures { λ r. ⌜ r ≡ labelsAt n ⌝ }
 {
@@ -61,7 +61,7 @@ fn loop_good(mode: u8, number: u32) -> bool
 }
 
 // The number by which the header is refused; where it is accepted, all pairs and records are in the sheet.
-pub fn check_header(sheet: &[u8]) -> u8
+pub(crate) fn check_header(sheet: &[u8]) -> u8
     ensures { λ r. ⌜ r ≡ headerNumber (now (sheet .entry)) ⌝ }
 {
     if sheet.len() < HEADER_SIZE {
@@ -87,7 +87,7 @@ pub fn check_header(sheet: &[u8]) -> u8
 }
 
 // The mode that a mode byte and a loop number say.
-pub fn loop_of(mode: u8, number: u32) -> Loop
+pub(crate) fn loop_of(mode: u8, number: u32) -> Loop
     ensures { λ r. ⌜ r ≡ loopOf mode number ⌝ }
 {
     if mode == 0 {
@@ -132,7 +132,7 @@ fn number_of(looping: Loop) -> u32
 }
 
 // Writes the header.
-pub fn put_header(room: &mut [u8], n: u8, looping: Loop, scale: u32)
+pub(crate) fn put_header(room: &mut [u8], n: u8, looping: Loop, scale: u32)
     requires { ⌜ headerSize ≤ length (now room) ⌝ }
     ensures { λ _. ⌜ now (room .exit) ≡ over (headerBytes n looping scale) 0 (now (room .entry)) ⌝ }
 {

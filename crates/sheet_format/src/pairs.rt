@@ -41,7 +41,7 @@ fn length_at(sheet: &[u8], at: usize) -> usize
 }
 
 // Each pair starts where the one before ends, and the last ends the sheet.
-pub fn check_pairs(sheet: &[u8], n: usize) -> u8
+pub(crate) fn check_pairs(sheet: &[u8], n: usize) -> u8
     requires { ⌜ (n ≤ maxEntries) × (labelsAt n ≤ length (now sheet)) ⌝ }
     ensures { λ r. ⌜ r ≡ pairsNumber (length (now (sheet .entry))) (labelsAt n) n (drop headerSize (now (sheet .entry))) ⌝ }
 {
@@ -63,7 +63,7 @@ pub fn check_pairs(sheet: &[u8], n: usize) -> u8
 }
 
 // The bytes of the label whose pair stands at `at`: a part of the sheet, cut where the sheet ends.
-pub fn part_at(sheet: &[u8], at: usize) -> &[u8]
+pub(crate) fn part_at(sheet: &[u8], at: usize) -> &[u8]
     requires { ⌜ at + pairSize ≤ length (now sheet) ⌝ }
     ensures { λ r. ⌜ now r ≡ partOf (now (sheet .entry)) (drop at (now (sheet .entry))) ⌝ }
 {
@@ -87,7 +87,7 @@ pub fn text_len(l: Label) -> usize
 }
 
 // Writes the pairs of the first n entries, whose labels start at place.
-pub fn put_pairs(room: &mut [u8], items: [Item; MAX_ENTRIES], n: usize)
+pub(crate) fn put_pairs(room: &mut [u8], items: [Item; MAX_ENTRIES], n: usize)
     requires { ⌜ (n ≤ maxEntries) × (labelsAt n ≤ length (now room)) ⌝ }
     ensures { λ _. ⌜ now (room .exit) ≡ over (pairsOf (labelsAt n) (take n items)) headerSize (now (room .entry)) ⌝ }
 {

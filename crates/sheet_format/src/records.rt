@@ -68,7 +68,7 @@ fn check_record(sheet: &[u8], at: usize, n: usize) -> u8
 }
 
 // The records of n entries, in turn.
-pub fn check_records(sheet: &[u8], n: usize) -> u8
+pub(crate) fn check_records(sheet: &[u8], n: usize) -> u8
     requires { ⌜ (n ≤ maxEntries) × (labelsAt n ≤ length (now sheet)) ⌝ }
     ensures { λ r. ⌜ r ≡ recordsNumber n n (drop (recordsAt n) (now (sheet .entry))) ⌝ }
 {
@@ -86,7 +86,7 @@ pub fn check_records(sheet: &[u8], n: usize) -> u8
 }
 
 // The placement that a record's kind, target and seconds bits say.
-pub fn placement_of(kind: u8, target: u8, seconds: u32) -> Placement
+pub(crate) fn placement_of(kind: u8, target: u8, seconds: u32) -> Placement
     ensures { λ r. ⌜ r ≡ placementOf kind target seconds ⌝ }
 {
     if kind == 0 {
@@ -162,7 +162,7 @@ fn put_record(room: &mut [u8], at: usize, item: Item)
 }
 
 // Writes the records of the first n entries.
-pub fn put_records(room: &mut [u8], items: [Item; MAX_ENTRIES], n: usize)
+pub(crate) fn put_records(room: &mut [u8], items: [Item; MAX_ENTRIES], n: usize)
     requires { ⌜ (n ≤ maxEntries) × (labelsAt n ≤ length (now room)) × (targetsGood n (take n items) ≡ true) ⌝ }
     ensures { λ _. ⌜ now (room .exit) ≡ over (recordsOf (take n items)) (recordsAt n) (now (room .entry)) ⌝ }
 {

@@ -7,7 +7,7 @@ ghost use Rattle.digits.specs.Digits.{over};
 ghost use Rattle.sheet_format.specs.Words.{word, bytesOf};
 
 // The u16 at a place.
-pub fn u16_at(s: &[u8], at: usize) -> u16
+pub(crate) fn u16_at(s: &[u8], at: usize) -> u16
     requires { ⌜ at + 2 ≤ length (now s) ⌝ }
     ensures { λ r. ⌜ r ≡ word 2 (drop at (now (s .entry))) ⌝ }
 {
@@ -16,7 +16,7 @@ pub fn u16_at(s: &[u8], at: usize) -> u16
 }
 
 // The u32 at a place.
-pub fn u32_at(s: &[u8], at: usize) -> u32
+pub(crate) fn u32_at(s: &[u8], at: usize) -> u32
     requires { ⌜ at + 4 ≤ length (now s) ⌝ }
     ensures { λ r. ⌜ r ≡ word 4 (drop at (now (s .entry))) ⌝ }
 {
@@ -24,7 +24,7 @@ pub fn u32_at(s: &[u8], at: usize) -> u32
 }
 
 // Writes a u16 at a place.
-pub fn put_u16(room: &mut [u8], at: usize, x: u16)
+pub(crate) fn put_u16(room: &mut [u8], at: usize, x: u16)
     requires { ⌜ at + 2 ≤ length (now room) ⌝ }
     ensures { λ _. ⌜ now (room .exit) ≡ over (bytesOf 2 x) at (now (room .entry)) ⌝ }
 {
@@ -34,7 +34,7 @@ pub fn put_u16(room: &mut [u8], at: usize, x: u16)
 }
 
 // Writes a u32 at a place.
-pub fn put_u32(room: &mut [u8], at: usize, x: u32)
+pub(crate) fn put_u32(room: &mut [u8], at: usize, x: u32)
     requires { ⌜ at + 4 ≤ length (now room) ⌝ }
     ensures { λ _. ⌜ now (room .exit) ≡ over (bytesOf 4 x) at (now (room .entry)) ⌝ }
 {
@@ -43,7 +43,7 @@ pub fn put_u32(room: &mut [u8], at: usize, x: u32)
 }
 
 // Writes four bytes, the first at a place.
-pub fn put_four(room: &mut [u8], at: usize, a: u8, b: u8, c: u8, d: u8)
+pub(crate) fn put_four(room: &mut [u8], at: usize, a: u8, b: u8, c: u8, d: u8)
     requires { ⌜ at + 4 ≤ length (now room) ⌝ }
     ensures { λ _. ⌜ now (room .exit) ≡ over (a ∷ b ∷ c ∷ d ∷ []) at (now (room .entry)) ⌝ }
 {

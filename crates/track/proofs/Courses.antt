@@ -4,6 +4,7 @@ use mathlib.Core.Path.{_≡_, refl, sym, ap, _∙_}
 use mathlib.Core.Bool.{Bool, true, false, not, _&&_, true≢false, false≢true}
 use mathlib.Core.List.{List, [], map}
 use native.Mathlib.Omega.{arith}
+use borrow.Author.Tests.{not-true}
 use lib.Dec.{ltb}
 use lib.ListN.{length}
 use lib.Ieee.{Float, eq}
@@ -24,7 +25,7 @@ use Rattle.track.specs.Tracks.{live, trackBase, rowsOf, moved, Sent}
 use Rattle.steps.specs.Slices.{over}
 use Rattle.track.specs.Updates.{isOnce, advanced, tickedTo, syncedTo, resting, playing}
 use Rattle.track.specs.Calls.{TrackOut, unless, fitted, advancedTo, rested, updated}
-use Rattle.track.specs.Courses.{isTicking, ticksFrom, answerIn, answered, Answered, stoppedBy, reachedFrom, courseRule}
+use Rattle.track.specs.Courses.{ticksFrom, answerIn, answered, Answered, stoppedBy, reachedFrom, courseRule}
 use Rattle.track.specs.declared.track.Track.{Track}
 use Rattle.track.specs.declared.update.Answer.{Answer}
 use Rattle.track.proofs.Updating.{refusing, passing, plays-out, ticks-on, syncs-on, sync, walked, listed-within, listed-over}
@@ -44,17 +45,23 @@ ruledOut t rule o =
 
 -- ---- whether it ticks
 
--- a base of 0: it does not
-pub not-zero : (mode : Loop) (c : Clock) {base b₀ : Float} → base ≡ b₀ → eq base zeroF ≡ true → ticksFrom mode c b₀ ≡ false
-not-zero mode c eb e = rw (rw eb at e)
-
--- another mode or state: it does not
-pub not-ticking : (mode : Loop) (c : Clock) (base : Float) {b : Bool} → b ≡ isTicking mode c → b ≡ false → ticksFrom mode c base ≡ false
-not-ticking mode c base eb e = go (not (eq base zeroF)) (isTicking mode c) (sym eb ∙ e)
+-- while it plays, another mode or a base of 0: it does not
+pub not-in : (mode : Loop) (c : Clock) {base b₀ : Float} → base ≡ b₀ → {b : Bool} → b ≡ (isOnce mode && not (eq base zeroF)) → b ≡ false → ticksFrom mode c b₀ ≡ false
+not-in mode c {base} eb et e = rw (sym eb) (go (eq base zeroF) (isOnce mode) (isPlaying (c .state)) (sym et ∙ e))
   where
-    go : (z b : Bool) → b ≡ false → (z && b) ≡ false
-    go true b p = p
-    go false b p = refl
+    go : (z o p : Bool) → (o && not z) ≡ false → (not z && (o && p)) ≡ false
+    go true o p h = refl
+    go false true p h = absurd (true≢false h)
+    go false false p h = refl
+
+-- another state: it does not
+pub not-playing : (mode : Loop) (c : Clock) (base : Float) {b : Bool} → b ≡ isPlaying (c .state) → b ≡ false → ticksFrom mode c base ≡ false
+not-playing mode c base et e = go (eq base zeroF) (isOnce mode) (isPlaying (c .state)) (sym et ∙ e)
+  where
+    go : (z o p : Bool) → p ≡ false → (not z && (o && p)) ≡ false
+    go true o p h = refl
+    go false true p h = h
+    go false false p h = refl
 
 pub not-once : (z o p : Bool) → (not z && (o && p)) ≡ false → z ≡ false → p ≡ true → o ≡ false
 not-once z false p e ez ep = refl
@@ -83,11 +90,11 @@ module _ (t : Track) (dt : Float) (rs : List ℕ) where
     out-sync eb e en eo e₁ e₂ = out-play ∙ ap (advancedTo t) (syncs-on t dt rs eb e en refl eo e₁ e₂)
 
 -- it ticks
-pub out-tick : (t : Track) (dt : Float) (rs : List ℕ) {base : Float} → base ≡ trackBase t → eq base zeroF ≡ false → {b : Bool} → b ≡ isTicking (t .looping) (t .clock) → b ≡ true
+pub out-tick : (t : Track) (dt : Float) (rs : List ℕ) {base : Float} → base ≡ trackBase t → {b : Bool} → b ≡ (isOnce (t .looping) && not (eq base zeroF)) → b ≡ true → isPlaying (t .clock .state) ≡ true
     → updated t dt rs ≡ advancedTo t (tickedTo (live t) base (t .clock .elapsed) (nextElapsed (t .clock) dt) rs)
-out-tick t dt rs eb ez et e =
-    let h = and-true (isOnce (t .looping)) (isPlaying (t .clock .state)) (sym et ∙ e) in
-    out-play t dt rs (h .1) ∙ ap (advancedTo t) (ticks-on t dt rs eb ez refl refl (h .0))
+out-tick t dt rs {base} eb et e p =
+    let h = and-true (isOnce (t .looping)) (not (eq base zeroF)) (sym et ∙ e) in
+    out-play t dt rs p ∙ ap (advancedTo t) (ticks-on t dt rs eb (not-true _ (h .1)) refl refl (h .0))
 
 -- no outcome is a refusal
 pub out-accepted : (t : Track) (dt : Float) (rs : List ℕ) → updated t dt rs .refusal ≡ accepted

@@ -5,10 +5,13 @@ use mathlib.Core.List.{List, map}
 use mathlib.Core.Bool.{true, false}
 use lib.Ieee.{Float}
 use Rattle.steps.specs.declared.Rule.{Rule}
+use Rattle.steps.specs.declared.Rule.the-variants.{Sync}
+use Rattle.steps.specs.Times.{runOf, localTime}
 use Rattle.steps.specs.Rows.{ruled}
-use Rattle.track.specs.Tracks.{live, rowsOf, moved, Sent}
-use Rattle.track.specs.Calls.{SeekAbs, roomOf, TrackOut, short, sent, soughtTo, trackStep, movedBy, withClock}
+use Rattle.track.specs.Tracks.{live, trackBase, shareIn, shareOf, rowsOf, moved, Sent}
+use Rattle.track.specs.Calls.{Room, roomOf, TrackOut, short, sent, soughtTo, movedBy, withClock}
 use Rattle.clock.specs.declared.Clock.{Clock}
+use Rattle.clock.specs.Clocks.{seekTo, sought}
 use Rattle.track.specs.declared.track.Track.{Track}
 use Rattle.track.specs.declared.track.TrackMoved.{TrackMoved}
 
@@ -32,8 +35,18 @@ module _ (t : Track) (c : Clock) (rule : Rule) (k : List ℕ) (a p : List Float)
   unfolding sent
   accepted h q k′ a′ p′ e s = rw h (rw e, s)
 
+-- what a seek sends, as it is worked out from the base
+pub seek-sent : (t : Track) (r : Room) (secs : Float) {base total elapsed time : Float} {c : Clock} → base ≡ trackBase t → total ≡ runOf (t .looping) base → elapsed ≡ seekTo total secs → time ≡ localTime (t .looping) base elapsed → c ≡ sought (t .clock) total elapsed
+    → sent t c (Sync time) r ≡ soughtTo t secs r
+unfolding soughtTo
+seek-sent t r secs eb er ee et ec = rw (ec, et, ee, er, eb)
+
+-- a share of the run is a second of it
+pub share-sent : (t : Track) (r : Room) (share secs : Float) {base total : Float} → base ≡ trackBase t → total ≡ runOf (t .looping) base → secs ≡ shareIn base total share → soughtTo t secs r ≡ soughtTo t (shareOf t share) r
+share-sent t r share secs eb er es = rw (es, er, eb)
+
 -- a seek that is refused by 3
 pub seek-refused : (t : Track) (secs : Float) (k : List ℕ) (a p : List Float) → short (roomOf k a p) t ≡ true
-    → Answers (trackStep t (SeekAbs secs (roomOf k a p))) (record { refusal = 3; track = t }) k k a a p p
-unfolding trackStep soughtTo
+    → Answers (soughtTo t secs (roomOf k a p)) (record { refusal = 3; track = t }) k k a a p p
+unfolding soughtTo
 seek-refused t secs k a p h = refused t _ _ k a p h

@@ -1,7 +1,7 @@
 -- A tick, entry by entry: its steps, and the numbers of the entries newly done. The laws that the loops over a tick cite.
 use Prim.Native.Nat.{ℕ, zero, suc, _+_, _<_, _≤_}
 use mathlib.Core.Path.{_≡_, refl, sym, ap, _∙_}
-use mathlib.Core.Bool.{Bool, true, false, not, _&&_}
+use mathlib.Core.Bool.{Bool, true, false, not, _&&_, Bool·beq, true≢false, false≢true}
 use mathlib.Core.List.{List, [], _∷_, _++_}
 use native.Mathlib.Nat.{not-suc-le-zero, le-of-suc-le-suc}
 use native.Mathlib.Numerals.{add-one}
@@ -65,6 +65,19 @@ keep-first : (b : Bool) (i : ℕ) (xs : List ℕ) → keep b i xs ≡ keep b i [
 keep-first true i xs = refl
 keep-first false i xs = refl
 
+-- an entry whose mark changes is newly done where it is done now; one whose mark stays is not
+pub newly-unlike : (d d′ : Bool) → not (Bool·beq d d′) ≡ true → d ≡ (not d′ && d)
+newly-unlike true true e = absurd (false≢true e)
+newly-unlike true false e = refl
+newly-unlike false true e = refl
+newly-unlike false false e = refl
+
+pub newly-alike : (d d′ : Bool) → not (Bool·beq d d′) ≡ false → false ≡ (not d′ && d)
+newly-alike true true e = refl
+newly-alike true false e = absurd (true≢false e)
+newly-alike false true e = refl
+newly-alike false false e = refl
+
 -- those from the entry i on
 unfoldable pub rest : List Entry → List Stepped → ℕ → List ℕ
 rest es ss i = newlyDone i (drop i es) (drop i ss)
@@ -115,6 +128,10 @@ module _ (es : List Entry) (ss : List Stepped) (l₀ : List ℕ) where
           count = omega (arith, simp length-append at (ap length turn));
           stores = store-run l k l′ k′ (keep b i []) (rest es ss (i + 1)) (rest es ss i) el ek turn ∙ inv .stores;
         }
+
+  -- one turn of an entry that is not newly done
+  pub one-passed : length ss ≡ length es → (l : List ℕ) (k i : ℕ) → Listing es ss l₀ l k i → i < length es → false ≡ (not (getD es i noEntry .done) && getD ss i noStep .done) → Listing es ss l₀ l k (i + 1)
+  one-passed each l k i inv h newly = one-listed each l k i inv h false newly l k refl (omega arith)
 
   -- after the last turn
   pub all-listed : (l : List ℕ) (k i : ℕ) → Listing es ss l₀ l k i → length es ≤ i → (k ≡ length (newlyDone 0 es ss)) × (l ≡ over (newlyDone 0 es ss) l₀)

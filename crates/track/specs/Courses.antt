@@ -62,6 +62,10 @@ courseRule k dt =
     (cond (eq base zeroF) Keep (Sync (localTime (k .looping) base (advanced (k .looping) [] base next next [] .elapsed))))
     Keep
 
+-- what plays, of its parts
+abbrev pub trackOf : ℕ → List Entry → Clock → Loop → Track
+trackOf count entries clock mode = record { count = count; entries = entries; clock = clock; looping = mode }
+
 -- the answer x, with this clock and these entries
 abbrev pub answered : Track → Answer → Clock → List Entry → TrackUpdated
 answered t x c es =

@@ -149,29 +149,6 @@ fn play_rule(mode: Loop, clock: Clock, base: f32) -> Rule
     }
 }
 
-// `seek_abs` in a track with this base and this run.
-fn seek_in(
-    track: Track,
-    base: f32,
-    total: f32,
-    secs: f32,
-    kinds: &mut [u8],
-    amounts: &mut [f32],
-    places: &mut [f32],
-) -> TrackMoved
-    requires { ⌜ (base ≡ trackBase track) × (total ≡ trackRun track) ⌝ }
-    ensures { λ r. ⌜ r ≡ movedBy (trackStep track (SeekAbs secs (roomOf (now (kinds .entry)) (now (amounts .entry)) (now (places .entry))))) ⌝ }
-    ensures { λ _. ⌜ Sent (trackStep track (SeekAbs secs (roomOf (now (kinds .entry)) (now (amounts .entry)) (now (places .entry)))) .rows) (now (kinds .entry)) (now (kinds .exit)) (now (amounts .entry)) (now (amounts .exit)) (now (places .entry)) (now (places .exit)) ⌝ }
-{
-    let mode = track.looping;
-    let elapsed = clock::seek_to(total, secs);
-    let t = steps::local_time(mode, base, elapsed);
-    let c = track.clock;
-    let clock = c.sought(total, elapsed);
-    let rule = Rule::Sync(t);
-    send(track, clock, rule, kinds, amounts, places)
-}
-
 // `progress` at an elapsed time.
 fn progress_in(mode: Loop, base: f32, total: f32, elapsed: f32) -> f32
     ensures { λ r. ⌜ r ≡ progressIn mode base total elapsed ⌝ }
@@ -297,7 +274,7 @@ impl Track {
         send(self, clock, rule, kinds, amounts, places)
     }
 
-    // `seek`: of an infinite run, a share of the base.
+    // `seek`: of an infinite run, a share of the base. It is `seek_abs` to that second, and written out for the same reason.
     pub fn seek(
         self,
         to: Share,
@@ -308,14 +285,64 @@ impl Track {
         ensures { λ r. ⌜ r ≡ movedBy (trackStep self (Seek (to .0) (roomOf (now (kinds .entry)) (now (amounts .entry)) (now (places .entry))))) ⌝ }
         ensures { λ _. ⌜ Sent (trackStep self (Seek (to .0) (roomOf (now (kinds .entry)) (now (amounts .entry)) (now (places .entry)))) .rows) (now (kinds .entry)) (now (kinds .exit)) (now (amounts .entry)) (now (amounts .exit)) (now (places .entry)) (now (places .exit)) ⌝ }
     {
-        let base = self.duration();
+        let n = self.entry_count();
         let mode = self.looping;
-        let total = steps::run_of(mode, base);
-        let secs = share_in(base, total, to.0);
-        seek_in(self, base, total, secs, kinds, amounts, places)
+        let mut clock = self.clock;
+        let mut entries = self.entries;
+        let mut refusal = refusal::ROWS_TOO_SHORT;
+        if !rows_short(n, kinds.len(), amounts.len(), places.len()) {
+            refusal = refusal::ACCEPTED;
+            // the base: the first four apart, one of them read off `self`
+            let mut base = 0.0f32;
+            let mut i = 0usize;
+            if n >= 4 {
+                base = walk::later_ends(base, entries[0], entries[1], entries[2], self.entries[3]);
+                i = 4;
+            }
+            while n - i >= 4 {
+                base = walk::later_ends(
+                    base,
+                    entries[i],
+                    entries[i + 1],
+                    entries[i + 2],
+                    entries[i + 3],
+                );
+                i += 4;
+            }
+            while i < n {
+                base = walk::later_end(base, entries[i]);
+                i += 1;
+            }
+            let total = steps::run_of(mode, base);
+            let secs = share_in(base, total, to.0);
+            let elapsed = clock::seek_to(total, secs);
+            let t = steps::local_time(mode, base, elapsed);
+            clock = clock.sought(total, elapsed);
+            // `sync_to_elapsed`
+            let mut j = 0usize;
+            while j < n {
+                let e = entries[j];
+                let s = steps::sync_entry(t, e);
+                let row = s.row;
+                kinds[j] = row.kind;
+                amounts[j] = row.amount;
+                places[j] = row.place;
+                if s.done != e.done {
+                    entries[j] = marked(e, s.done);
+                }
+                j += 1;
+            }
+        }
+        let track = Track {
+            count: self.count,
+            entries,
+            clock,
+            looping: mode,
+        };
+        TrackMoved { refusal, track }
     }
 
-    // `seek_abs`. Both loops and the one exit stand here, since entries that are passed on, or held at a further exit, are copied.
+    // `seek_abs`. All loops and the one exit stand here, since entries that are passed on, or held at a further exit, are copied.
     pub fn seek_abs(
         self,
         to: Secs,
@@ -333,14 +360,27 @@ impl Track {
         let mut refusal = refusal::ROWS_TOO_SHORT;
         if !rows_short(n, kinds.len(), amounts.len(), places.len()) {
             refusal = refusal::ACCEPTED;
-            // the base
-            let mut ends = [0.0f32; MAX_ENTRIES];
+            // the base: the first four apart, one of them read off `self`
+            let mut base = 0.0f32;
             let mut i = 0usize;
+            if n >= 4 {
+                base = walk::later_ends(base, entries[0], entries[1], entries[2], self.entries[3]);
+                i = 4;
+            }
+            while n - i >= 4 {
+                base = walk::later_ends(
+                    base,
+                    entries[i],
+                    entries[i + 1],
+                    entries[i + 2],
+                    entries[i + 3],
+                );
+                i += 4;
+            }
             while i < n {
-                ends[i] = steps::end_at(entries[i]);
+                base = walk::later_end(base, entries[i]);
                 i += 1;
             }
-            let base = walk::base_of(&ends[..n]);
             let total = steps::run_of(mode, base);
             let elapsed = clock::seek_to(total, to.0);
             let t = steps::local_time(mode, base, elapsed);

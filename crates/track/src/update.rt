@@ -26,7 +26,7 @@ ghost use Rattle.track.specs.Tracks.{live, trackBase, rowsOf, Sent};
 ghost use Rattle.steps.specs.Slices.{over};
 ghost use Rattle.track.specs.Updates.{isOnce, aboveOne, ticks, newlyDone, advanced, playing};
 ghost use Rattle.track.specs.Calls.{Update, Preview, roomOf, updated, fitted, trackStep, updatedBy};
-ghost use Rattle.track.specs.Courses.{isTicking, ticksFrom, checkedBy, stoppedBy, reachedFrom, restingIn, answerIn, answered, Answered, courseRule};
+ghost use Rattle.track.specs.Courses.{ticksFrom, checkedBy, stoppedBy, reachedFrom, restingIn, answerIn, trackOf, answered, Answered, courseRule};
 ghost use Rattle.track.specs.Claims.{Claims};
 
 // Where an update comes to: the elapsed time, and whether the run ends there.
@@ -160,12 +160,11 @@ fn reach_in(mode: Loop, base: f32, next: f32) -> Reach
     }
 }
 
-// Whether an update ticks, where the base is not 0: Playing in Once.
-fn is_ticking(mode: Loop, clock: Clock) -> bool
-    ensures { λ r. ⌜ r ≡ isTicking mode clock ⌝ }
+// Whether an update that plays ticks: in Once, where the base is not 0.
+fn ticks_in(mode: Loop, base: f32) -> bool
+    ensures { λ r. ⌜ r ≡ (isOnce mode && not (eq base zeroF)) ⌝ }
 {
-    let state = clock.state;
-    steps::both(is_once(mode), clock::is_playing(state))
+    steps::both(is_once(mode), base != 0.0)
 }
 
 // A tick stays within the base.
@@ -283,7 +282,7 @@ fn looped(track: Track, base: f32, dt: f32, list: &mut [u8]) -> Course
 
 // The course of an update that does not tick. While Playing, a base of 0 completes at once.
 fn course_of(track: Track, base: f32, dt: f32, list: &mut [u8]) -> Course
-    requires { ⌜ (base ≡ trackBase track) × (ticksFrom (track .looping) (track .clock) base ≡ false) ⌝ }
+    requires { ⌜ (isPlaying (track .clock .state) ≡ true → base ≡ trackBase track) × (ticksFrom (track .looping) (track .clock) (trackBase track) ≡ false) ⌝ }
     ensures { λ r. ⌜ r .rule ≡ courseRule track dt ⌝ }
     ensures { λ r. ⌜ r .answer ≡ answerIn (fitted (length (now (list .entry))) track (updated track dt [])) ⌝ }
     ensures { λ r. ⌜ r .clock ≡ fitted (length (now (list .entry))) track (updated track dt []) .track .clock ⌝ }
@@ -311,22 +310,33 @@ fn course_of(track: Track, base: f32, dt: f32, list: &mut [u8]) -> Course
     }
 }
 
-// An update that does not tick: the rows of its course, if it is not refused.
+// An update that does not tick: the rows of its course, if it is not refused. The base counts only while it plays. What plays is
+// handed over in its parts, since a track made of them would be copied.
 fn pass(
-    track: Track,
+    entries: [Entry; MAX_ENTRIES],
+    count: usize,
+    clock: Clock,
+    mode: Loop,
+    base: f32,
     dt: f32,
     list: &mut [u8],
     kinds: &mut [u8],
     amounts: &mut [f32],
     places: &mut [f32],
 ) -> Passed
-    requires { ⌜ ticksFrom (track .looping) (track .clock) (trackBase track) ≡ false ⌝ }
-    requires { ⌜ length (live track) ≤ length (now kinds) ⌝ }
-    requires { ⌜ length (live track) ≤ length (now amounts) ⌝ }
-    requires { ⌜ length (live track) ≤ length (now places) ⌝ }
-    ensures { λ r. ⌜ Answered (fitted (length (now (list .entry))) track (updated track dt [])) (answered track (r .answer) (r .clock) (r .entries)) (now (list .entry)) (now (list .exit)) (now (kinds .entry)) (now (kinds .exit)) (now (amounts .entry)) (now (amounts .exit)) (now (places .entry)) (now (places .exit)) ⌝ }
+    requires { ⌜ (isPlaying (clock .state) ≡ true → base ≡ trackBase (trackOf count entries clock mode)) ⌝ }
+    requires { ⌜ ticksFrom mode clock (trackBase (trackOf count entries clock mode)) ≡ false ⌝ }
+    requires { ⌜ length (live (trackOf count entries clock mode)) ≤ length (now kinds) ⌝ }
+    requires { ⌜ length (live (trackOf count entries clock mode)) ≤ length (now amounts) ⌝ }
+    requires { ⌜ length (live (trackOf count entries clock mode)) ≤ length (now places) ⌝ }
+    ensures { λ r. ⌜ Answered (fitted (length (now (list .entry))) (trackOf count entries clock mode) (updated (trackOf count entries clock mode) dt [])) (answered (trackOf count entries clock mode) (r .answer) (r .clock) (r .entries)) (now (list .entry)) (now (list .exit)) (now (kinds .entry)) (now (kinds .exit)) (now (amounts .entry)) (now (amounts .exit)) (now (places .entry)) (now (places .exit)) ⌝ }
 {
-    let base = track.duration();
+    let track = Track {
+        count,
+        entries,
+        clock,
+        looping: mode,
+    };
     let w = course_of(track, base, dt, list);
     let answer = w.answer;
     let clock = w.clock;
@@ -340,7 +350,6 @@ fn pass(
             entries,
         };
     }
-    let entries = track.entries;
     Passed {
         answer,
         clock,
@@ -403,7 +412,7 @@ fn show_play(track: Track, dt: f32, kinds: &mut [u8], amounts: &mut [f32], place
 }
 
 impl Track {
-    // `update`, with each leaf's reply. The list holds the numbers of the entries that completed. Both loops go over one copy of the
+    // `update`, with each leaf's reply. The list holds the numbers of the entries that completed. All loops go over one copy of the
     // entries, as in `seek_abs`.
     pub fn update(
         self,
@@ -425,21 +434,36 @@ impl Track {
         let no = checked(n, replies, kinds.len(), amounts.len(), places.len());
         let mut a = stopped(no);
         if no == refusal::ACCEPTED {
-            if is_ticking(mode, clock) {
-                // the base
-                let mut ends = [0.0f32; MAX_ENTRIES];
+            let state = clock.state;
+            if clock::is_playing(state) {
+                // the base: the first four apart, one of them read off `self`
+                let mut base = 0.0f32;
                 let mut i = 0usize;
+                if n >= 4 {
+                    base = walk::later_ends(
+                        base,
+                        entries[0],
+                        entries[1],
+                        entries[2],
+                        self.entries[3],
+                    );
+                    i = 4;
+                }
+                while n - i >= 4 {
+                    base = walk::later_ends(
+                        base,
+                        entries[i],
+                        entries[i + 1],
+                        entries[i + 2],
+                        entries[i + 3],
+                    );
+                    i += 4;
+                }
                 while i < n {
-                    ends[i] = steps::end_at(entries[i]);
+                    base = walk::later_end(base, entries[i]);
                     i += 1;
                 }
-                let base = walk::base_of(&ends[..n]);
-                if base == 0.0 {
-                    let w = pass(self, dt, list, kinds, amounts, places);
-                    a = w.answer;
-                    clock = w.clock;
-                    entries = w.entries;
-                } else {
+                if ticks_in(mode, base) {
                     let p = passage_of(clock, base, dt);
                     let to = p.to;
                     let end = to.elapsed;
@@ -452,13 +476,12 @@ impl Track {
                         while j < n {
                             let e = entries[j];
                             let s = steps::tick_entry(p.from, end, e, replies[j]);
-                            let newly = newly_done(e, s);
-                            listed = note(list, listed, newly, j);
                             let row = s.row;
                             kinds[j] = row.kind;
                             amounts[j] = row.amount;
                             places[j] = row.place;
                             if s.done != e.done {
+                                listed = note(list, listed, s.done, j);
                                 entries[j] = marked(e, s.done);
                             }
                             j += 1;
@@ -466,9 +489,36 @@ impl Track {
                         a = reached(clock, to.ended, listed);
                         clock = clock.advanced(end, to.ended);
                     }
+                } else {
+                    let w = pass(
+                        entries,
+                        self.count,
+                        clock,
+                        mode,
+                        base,
+                        dt,
+                        list,
+                        kinds,
+                        amounts,
+                        places,
+                    );
+                    a = w.answer;
+                    clock = w.clock;
+                    entries = w.entries;
                 }
             } else {
-                let w = pass(self, dt, list, kinds, amounts, places);
+                let w = pass(
+                    entries,
+                    self.count,
+                    clock,
+                    mode,
+                    0.0,
+                    dt,
+                    list,
+                    kinds,
+                    amounts,
+                    places,
+                );
                 a = w.answer;
                 clock = w.clock;
                 entries = w.entries;

@@ -275,6 +275,26 @@ fn latest(a: f32, b: f32, c: f32, d: f32) -> f32
     later(later(later(later(0.0, a), b), c), d)
 }
 
+// The larger of base, which is no NaN, and where the entry ends: one step of the fold of `duration`.
+pub fn later_end(base: f32, e: Entry) -> f32
+    ensures { λ r. ⌜ r ≡ cond (lt base (endAt e)) (endAt e) base ⌝ }
+{
+    later(base, steps::end_at(e))
+}
+
+// Four steps of it: the largest of the four ends need not wait for base.
+pub fn later_ends(base: f32, a: Entry, b: Entry, c: Entry, d: Entry) -> f32
+    ensures { λ r. ⌜ r ≡ cond (lt base (baseOf (a ∷ b ∷ c ∷ d ∷ []))) (baseOf (a ∷ b ∷ c ∷ d ∷ [])) base ⌝ }
+{
+    let block = latest(
+        steps::end_at(a),
+        steps::end_at(b),
+        steps::end_at(c),
+        steps::end_at(d),
+    );
+    later(base, block)
+}
+
 // The base, from what is folded so far and the ends from the place first on.
 fn base_from(ends: &[f32], first: usize, folded: f32) -> f32
     requires { ⌜ (first ≤ length (now ends)) × (isNan folded ≡ false) ⌝ }
@@ -290,7 +310,7 @@ fn base_from(ends: &[f32], first: usize, folded: f32) -> f32
 }
 
 // The base of entries with these ends, by blocks of four: a block's fold need not wait for the one before.
-pub fn base_of(ends: &[f32]) -> f32
+fn base_of(ends: &[f32]) -> f32
     ensures { λ r. ⌜ r ≡ foldl maxF zeroF (now (ends .entry)) ⌝ }
 {
     let mut base: f32 = 0.0;

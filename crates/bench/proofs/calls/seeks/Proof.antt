@@ -31,6 +31,15 @@ slice-aggregate-seek-3 c = search needs
 seek-requires : tie.Need-seek-requires Inv-loop μ-loop
 seek-requires c κs = search needs
 
+add-turn : tie.Need-add-turn Inv-loop μ-loop
+add-turn c = search needs
+
+loop-less : tie.Need-loop-less Inv-loop μ-loop
+loop-less c = search needs
+
+loop-again : tie.Need-loop-again Inv-loop μ-loop
+loop-again c = search needs
+
 array-read-is-row : tie.Need-array-read-is-row Inv-loop μ-loop
 array-read-is-row c = search needs
 
@@ -49,18 +58,6 @@ elapsed-requires c κs = search needs
 returns : tie.Need-returns Inv-loop μ-loop
 returns c = search needs
 
-add-turn : tie.Need-add-turn Inv-loop μ-loop
-add-turn c = search needs
-
-loop-less : tie.Need-loop-less Inv-loop μ-loop
-loop-less c = search needs
-
-loop-again : tie.Need-loop-again Inv-loop μ-loop
-loop-again c = search needs
-
-elapsed-requires-2 : tie.Need-elapsed-requires-2 Inv-loop μ-loop
-elapsed-requires-2 c κs = search needs
-
 returns-2 : tie.Need-returns-2 Inv-loop μ-loop
 returns-2 c = search needs
 
@@ -76,14 +73,13 @@ seeks-spec =
     slice-aggregate-seek-2
     slice-aggregate-seek-3
     seek-requires
+    add-turn
+    loop-less
+    loop-again
     array-read-is-row
     array-read-is-row-2
     array-read-is-row-3
     is-row-requires
     elapsed-requires
     returns
-    add-turn
-    loop-less
-    loop-again
-    elapsed-requires-2
     returns-2)

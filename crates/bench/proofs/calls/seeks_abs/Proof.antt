@@ -7,11 +7,11 @@ use Rattle.bench.proofs.calls.seeks_abs.Statement.{statement}
 use Rattle.bench.proofs.calls.seeks_abs.Tie as tie
 
 abbrev Inv-loop : tie.InvT-loop
-Inv-loop first base turns t₀ kinds₀ amounts₀ places₀ turn₀ t kinds amounts places turn =
+Inv-loop from first base turns t₀ kinds₀ amounts₀ places₀ turn₀ t kinds amounts places turn =
     (turn ≤ turns) × (length kinds ≡ 64) × (length amounts ≡ 64) × (length places ≡ 64)
 
 abbrev μ-loop : tie.MeasureT-loop
-μ-loop first base turns t₀ kinds₀ amounts₀ places₀ turn₀ t kinds amounts places turn = turns - turn
+μ-loop from first base turns t₀ kinds₀ amounts₀ places₀ turn₀ t kinds amounts places turn = turns - turn
 
 loop-holds : tie.Need-loop-holds Inv-loop μ-loop
 loop-holds c = search needs
@@ -31,6 +31,15 @@ slice-aggregate-seek-abs-3 c = search needs
 seek-abs-requires : tie.Need-seek-abs-requires Inv-loop μ-loop
 seek-abs-requires c κs = search needs
 
+add-turn : tie.Need-add-turn Inv-loop μ-loop
+add-turn c = search needs
+
+loop-less : tie.Need-loop-less Inv-loop μ-loop
+loop-less c = search needs
+
+loop-again : tie.Need-loop-again Inv-loop μ-loop
+loop-again c = search needs
+
 array-read-is-row : tie.Need-array-read-is-row Inv-loop μ-loop
 array-read-is-row c = search needs
 
@@ -45,15 +54,6 @@ is-row-requires c κs = search needs
 
 returns : tie.Need-returns Inv-loop μ-loop
 returns c = search needs
-
-add-turn : tie.Need-add-turn Inv-loop μ-loop
-add-turn c = search needs
-
-loop-less : tie.Need-loop-less Inv-loop μ-loop
-loop-less c = search needs
-
-loop-again : tie.Need-loop-again Inv-loop μ-loop
-loop-again c = search needs
 
 returns-2 : tie.Need-returns-2 Inv-loop μ-loop
 returns-2 c = search needs
@@ -70,12 +70,12 @@ seeks-abs-spec =
     slice-aggregate-seek-abs-2
     slice-aggregate-seek-abs-3
     seek-abs-requires
+    add-turn
+    loop-less
+    loop-again
     array-read-is-row
     array-read-is-row-2
     array-read-is-row-3
     is-row-requires
     returns
-    add-turn
-    loop-less
-    loop-again
     returns-2)

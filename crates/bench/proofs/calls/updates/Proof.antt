@@ -34,6 +34,24 @@ slice-aggregate-update-5 c = search needs
 update-requires : tie.Need-update-requires Inv-loop μ-loop
 update-requires c κs = search needs
 
+played-requires : tie.Need-played-requires Inv-loop μ-loop
+played-requires c κs = search needs
+
+add-turn : tie.Need-add-turn Inv-loop μ-loop
+add-turn c = search needs
+
+loop-less : tie.Need-loop-less Inv-loop μ-loop
+loop-less c = search needs
+
+loop-again : tie.Need-loop-again Inv-loop μ-loop
+loop-again c = search needs
+
+array-read-if2 : tie.Need-array-read-if2 Inv-loop μ-loop
+array-read-if2 c = search needs
+
+returns : tie.Need-returns Inv-loop μ-loop
+returns c = search needs
+
 array-read-is-row : tie.Need-array-read-is-row Inv-loop μ-loop
 array-read-is-row c = search needs
 
@@ -49,32 +67,8 @@ is-row-requires c κs = search needs
 elapsed-requires : tie.Need-elapsed-requires Inv-loop μ-loop
 elapsed-requires c κs = search needs
 
-returns : tie.Need-returns Inv-loop μ-loop
-returns c = search needs
-
-array-read-if2 : tie.Need-array-read-if2 Inv-loop μ-loop
-array-read-if2 c = search needs
-
-elapsed-requires-2 : tie.Need-elapsed-requires-2 Inv-loop μ-loop
-elapsed-requires-2 c κs = search needs
-
 returns-2 : tie.Need-returns-2 Inv-loop μ-loop
 returns-2 c = search needs
-
-played-requires : tie.Need-played-requires Inv-loop μ-loop
-played-requires c κs = search needs
-
-add-turn : tie.Need-add-turn Inv-loop μ-loop
-add-turn c = search needs
-
-loop-less : tie.Need-loop-less Inv-loop μ-loop
-loop-less c = search needs
-
-loop-again : tie.Need-loop-again Inv-loop μ-loop
-loop-again c = search needs
-
-elapsed-requires-3 : tie.Need-elapsed-requires-3 Inv-loop μ-loop
-elapsed-requires-3 c κs = search needs
 
 returns-3 : tie.Need-returns-3 Inv-loop μ-loop
 returns-3 c = search needs
@@ -92,18 +86,16 @@ updates-spec =
     slice-aggregate-update-4
     slice-aggregate-update-5
     update-requires
+    played-requires
+    add-turn
+    loop-less
+    loop-again
+    array-read-if2
+    returns
     array-read-is-row
     array-read-is-row-2
     array-read-is-row-3
     is-row-requires
     elapsed-requires
-    returns
-    array-read-if2
-    elapsed-requires-2
     returns-2
-    played-requires
-    add-turn
-    loop-less
-    loop-again
-    elapsed-requires-3
     returns-3)

@@ -28,9 +28,9 @@ returns c =
     let start = asked .before .before .before in
     let g = start .args in
     let p = sym (asked .is-playing .ensures) ∙ plays .if1 .taken in
-    let o = out-zero (g .track) (g .dt) [] p (start .pre .0) (zero .if2 .taken) in
+    let o = out-zero (g .track) (g .dt) [] p (start .pre .0 p) (zero .if2 .taken) in
     let h = fits-coursed (g .track) (g .dt) (g .list .now) (g .list .now) _ _ _ o (le-ltb (length (g .list .now)) 0 (omega arith)) (c .before .reached .ensures) (c .advanced .ensures) refl in
-    (sym (rule-zero (g .track) (g .dt) p (start .pre .0) (zero .if2 .taken)), (h .answer, (h .clock, h .list)))
+    (sym (rule-zero (g .track) (g .dt) p (start .pre .0 p) (zero .if2 .taken)), (h .answer, (h .clock, h .list)))
 
 looped-requires : tie.Need-looped-requires
 looped-requires c κs =
@@ -39,7 +39,8 @@ looped-requires c κs =
     let asked = plays .before in
     let start = asked .before .before .before in
     let p = sym (asked .is-playing .ensures) ∙ plays .if1 .taken in
-    ((start .pre .0, left .if2 .left), (not-once _ _ _ (start .pre .1) (left .if2 .left) p, p))
+    let base = start .pre .0 p in
+    ((base, left .if2 .left), (not-once _ _ _ (rw (sym base) at (start .pre .1)) (left .if2 .left) p, p))
 
 same-length : tie.Need-same-length
 same-length c = search needs
