@@ -274,7 +274,7 @@ impl Track {
         send(self, clock, rule, kinds, amounts, places)
     }
 
-    // `seek`: of an infinite run, a share of the base. It is `seek_abs` to that second, and written out for the same reason.
+    // `seek`: of an infinite run, a share of the base. It is `seek_abs` to that second, written out for the reason that stands there.
     pub fn seek(
         self,
         to: Share,
@@ -292,7 +292,7 @@ impl Track {
         let mut refusal = refusal::ROWS_TOO_SHORT;
         if !rows_short(n, kinds.len(), amounts.len(), places.len()) {
             refusal = refusal::ACCEPTED;
-            // the base: the first four apart, one of them read off `self`
+            // the base; the fourth entry is read off `self`, so that the copies of the entries do not wait (docs/DECISIONS.md)
             let mut base = 0.0f32;
             let mut i = 0usize;
             if n >= 4 {
@@ -360,7 +360,7 @@ impl Track {
         let mut refusal = refusal::ROWS_TOO_SHORT;
         if !rows_short(n, kinds.len(), amounts.len(), places.len()) {
             refusal = refusal::ACCEPTED;
-            // the base: the first four apart, one of them read off `self`
+            // the base; the fourth entry is read off `self`, so that the copies of the entries do not wait (docs/DECISIONS.md)
             let mut base = 0.0f32;
             let mut i = 0usize;
             if n >= 4 {

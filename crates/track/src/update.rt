@@ -436,7 +436,7 @@ impl Track {
         if no == refusal::ACCEPTED {
             let state = clock.state;
             if clock::is_playing(state) {
-                // the base: the first four apart, one of them read off `self`
+                // the base; the fourth entry is read off `self`, so that the copies of the entries do not wait (docs/DECISIONS.md)
                 let mut base = 0.0f32;
                 let mut i = 0usize;
                 if n >= 4 {
