@@ -5,7 +5,12 @@ use Rattle.float32.specs.Helpers.{maxF}
 use Rattle.steps.specs.Times.{baseOf}
 use Rattle.walk.specs.Completions.{cycleStart, completes, inCycle, breaksAt, stopsAt, cycles, completionsIn, completionsBetween}
 use Rattle.walk.specs.Cases.{caseHolds, allHold, table}
+use Rattle.walk.specs.Prompt.{completionsWithin, slowWalk, slowAsSaid}
 
 pub holds : T (allHold table)
 unfolding table allHold caseHolds completionsBetween completionsIn cycles stopsAt breaksAt inCycle completes cycleStart baseOf maxF ofBits add mul div lt le eq ofInt toUnsigned isNan
 holds = tt
+
+pub slow : T slowAsSaid
+unfolding slowAsSaid slowWalk completionsWithin cycles stopsAt breaksAt inCycle completes cycleStart baseOf maxF ofBits add mul div lt le eq ofInt toUnsigned isNan
+slow = tt

@@ -1,4 +1,4 @@
--- The loop over the cycles: its fuel never runs out, and it ends.
+-- The loop over the cycles: its fuel never runs out.
 use mathlib.Core.Path.{_≡_, refl, ap, sym, _∙_}
 use mathlib.Core.Bool.{Bool, true, false, true≢false}
 use mathlib.Core.List.{List, [], _++_}
@@ -10,11 +10,11 @@ use Rattle.walk.specs.declared.Walk.{Walk}
 use Rattle.walk.specs.Completions.{cycleStart, inCycle, lastCycle, nextCycle, stopsAt, cycles}
 
 -- a cycle at which the loop does not stop is not the last
-top-stops : (w : Walk) (c : ℕ) → c ≡ lastCycle → stopsAt w c ≡ true
+pub top-stops : (w : Walk) (c : ℕ) → c ≡ lastCycle → stopsAt w c ≡ true
 unfolding stopsAt
 top-stops w c e = rw (eq-eqb c lastCycle e)
 
-below-top : (w : Walk) (c : ℕ) → c ≤ lastCycle → stopsAt w c ≡ false → c < lastCycle
+pub below-top : (w : Walk) (c : ℕ) → c ≤ lastCycle → stopsAt w c ≡ false → c < lastCycle
 below-top w c h e =
     let ne : c ≡ lastCycle → ⊥ = λ t. true≢false (sym (top-stops w c t) ∙ e) in
     omega arith
@@ -50,16 +50,3 @@ pub turn : (w : Walk) (ends : List Float) (c : ℕ) {stop stop′ : Bool} {c′ 
     → stop ≡ false → start ≡ cycleStart w c → c′ ≡ nextCycle c → stop′ ≡ stopsAt w c′
     → cycles w ends (2 ^ 32) stop c ≡ inCycle w start 0 ends ++ cycles w ends (2 ^ 32) stop′ c′
 turn w ends c e₁ e₂ e₃ e₄ = rw (e₁, e₂, e₄, e₃) (unroll w ends c)
-
--- how many cycles are left at most
-abbrev pub left : Bool → ℕ → ℕ
-left true c = 0
-left false c = 4294967296 - c
-
-left-next : (w : Walk) (c : ℕ) (stop : Bool) → c ≤ lastCycle → stopsAt w (nextCycle c) ≡ stop → left stop (nextCycle c) < left false c
-left-next w c true h e = omega arith
-left-next w c false h e = let l : nextCycle c < lastCycle = below-top w (nextCycle c) (omega arith) e in omega arith
-
--- fewer after a turn
-pub left-less : (w : Walk) (c : ℕ) {stop stop′ : Bool} {c′ : ℕ} → c ≤ lastCycle → stop ≡ false → c′ ≡ nextCycle c → stop′ ≡ stopsAt w c′ → left stop′ c′ < left stop c
-left-less w c h e₁ e₂ e₃ = rw (e₁, e₃, e₂) (left-next w c (stopsAt w (nextCycle c)) h refl)

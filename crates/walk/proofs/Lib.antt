@@ -7,4 +7,10 @@ pub mod Numbers
 pub mod Largest
 pub mod Ends
 pub mod Answers
+pub mod Drift
+pub mod Starts
+pub mod Fuel
+pub mod Turns
+pub mod Spans
+pub mod Prompt
 pub mod Claims

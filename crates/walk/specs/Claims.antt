@@ -10,6 +10,7 @@ use Rattle.tween.specs.declared.loop_mode.Loop.{Loop}
 use Rattle.steps.specs.declared.Entry.{Entry}
 use Rattle.walk.specs.Completions.{completionsIn, completionsBetween}
 use Rattle.walk.specs.Cases.{allHold, table}
+use Rattle.walk.specs.Prompt.{Prompt, PromptAnswer, FewTurns, slowAsSaid}
 
 -- every number of the list is below n
 abbrev pub AllBelow : ℕ → List ℕ → Type 0
@@ -24,3 +25,9 @@ pub record Claims : Type 0 where
   pub nan : (mode : Loop) (ends : List Float) (base prev next : Float) → (isNan prev || isNan next) ≡ true → completionsIn mode ends base prev next ≡ []
   -- every number listed is that of an entry, so it fits a byte
   pub below : (mode : Loop) (es : List Entry) (prev next : Float) → AllBelow (length es) (completionsBetween mode es prev next)
+  -- no walk goes over many more cycles than the list has places
+  pub prompt : Prompt
+  pub answer : PromptAnswer
+  pub few : FewTurns
+  -- some walks go over 385 cycles that list nothing
+  pub slow : T slowAsSaid

@@ -1,4 +1,5 @@
 pub mod Completions
 pub mod Answers
 pub mod Cases
+pub mod Prompt
 pub mod Claims

@@ -1,12 +1,14 @@
 -- `count_from` counts cycle by cycle: those counted and those of the cycles still to come are all of them.
 use mathlib.Core.Path.{_≡_, refl, ap}
-use Prim.Native.Nat.{_+_, _≤_, _^_}
+use Prim.Native.Nat.{_+_, _-_, _≤_, _^_}
 use native.Mathlib.Omega.{arith}
 use lib.ListN.{length, length-append}
 use borrow.Author.Needs.{needs}
 use borrow.Author.Tests.{not-true, not-false, le-leb, lt-leb}
 use Rattle.walk.specs.Completions.{lastCycle, cycles, cyclesFrom}
-use Rattle.walk.proofs.Cycles.{cycles-stop, turn, left, left-less}
+use Rattle.walk.specs.Prompt.{turns}
+use Rattle.walk.proofs.Cycles.{cycles-stop, turn}
+use Rattle.walk.proofs.Turns.{turns-less}
 use Rattle.walk.proofs.count_from.Statement.{statement}
 use Rattle.walk.proofs.count_from.Tie as tie
 
@@ -15,7 +17,7 @@ Inv-loop ends w first room n₀ cycle₀ stop₀ n cycle stop =
     (n ≤ room) × (n + length (cycles w ends (2 ^ 32) stop cycle) ≡ length (cyclesFrom w ends first)) × (cycle ≤ lastCycle)
 
 abbrev μ-loop : tie.MeasureT-loop
-μ-loop ends w first room n₀ cycle₀ stop₀ n cycle stop = left stop cycle
+μ-loop ends w first room n₀ cycle₀ stop₀ n cycle stop = turns w ends (room - n) (2 ^ 32) stop cycle
 
 breaks-at-requires : tie.Need-breaks-at-requires Inv-loop μ-loop
 breaks-at-requires c κs = search needs
@@ -52,7 +54,8 @@ loop-less : tie.Need-loop-less Inv-loop μ-loop
 loop-less c =
     let a = c .before .before .before .before .before .before .before .before .before .args in
     let l = c .before .before .before .before .before .before .loop in
-    left-less (a .w) (l .cycle) (l .inv .2) (not-true (l .stop) (c .before .before .before .before .before .loop-test .taken)) (c .before .next-cycle .ensures) (c .stops-at .ensures)
+    turns-less (a .w) (a .ends .now) (a .room - l .n) _ (l .cycle) (not-true (l .stop) (c .before .before .before .before .before .loop-test .taken))
+    (c .before .before .before .before .cycle-start .ensures) (c .before .before .before .count-cycle .ensures) (omega arith) (omega arith) (c .before .next-cycle .ensures) (c .stops-at .ensures)
 
 loop-again : tie.Need-loop-again Inv-loop μ-loop
 loop-again c =

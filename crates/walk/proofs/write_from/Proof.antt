@@ -8,8 +8,10 @@ use lib.Seq.{sets, length-sets}
 use borrow.Author.Needs.{needs}
 use borrow.Author.Tests.{not-true, not-false}
 use Rattle.walk.specs.Completions.{inCycle, lastCycle, cycles, cyclesFrom}
+use Rattle.walk.specs.Prompt.{turns}
 use Rattle.walk.proofs.Cycle.{store-run, store-all}
-use Rattle.walk.proofs.Cycles.{cycles-stop, turn, left, left-less}
+use Rattle.walk.proofs.Cycles.{cycles-stop, turn}
+use Rattle.walk.proofs.Turns.{turns-less}
 use Rattle.walk.proofs.write_from.Statement.{statement}
 use Rattle.walk.proofs.write_from.Tie as tie
 
@@ -21,7 +23,7 @@ Inv-loop ends w first list₀ n₀ cycle₀ stop₀ list n cycle stop =
     × (cycle ≤ lastCycle)
 
 abbrev μ-loop : tie.MeasureT-loop
-μ-loop ends w first list₀ n₀ cycle₀ stop₀ list n cycle stop = left stop cycle
+μ-loop ends w first list₀ n₀ cycle₀ stop₀ list n cycle stop = turns w ends (length (cycles w ends (2 ^ 32) stop cycle)) (2 ^ 32) stop cycle
 
 breaks-at-requires : tie.Need-breaks-at-requires Inv-loop μ-loop
 breaks-at-requires c κs = search needs
@@ -49,7 +51,11 @@ loop-less : tie.Need-loop-less Inv-loop μ-loop
 loop-less c =
     let a = c .before .before .before .before .before .before .before .before .before .before .before .before .args in
     let l = c .before .before .before .before .before .before .before .before .loop in
-    left-less (a .w) (l .cycle) (l .inv .3) (not-true (l .stop) (c .before .before .before .before .before .before .before .loop-test .taken)) (c .before .next-cycle .ensures) (c .stops-at .ensures)
+    let s = c .before .before .before .before .before .before .cycle-start in
+    let e = turn (a .w) (a .ends .now) (l .cycle) (not-true (l .stop) (c .before .before .before .before .before .before .before .loop-test .taken)) (s .ensures) (c .before .next-cycle .ensures) (c .stops-at .ensures) in
+    let k = simp length-append at (ap length e) in
+    turns-less (a .w) (a .ends .now) (length (cycles (a .w) (a .ends .now) (2 ^ 32) (l .stop) (l .cycle))) _ (l .cycle) (not-true (l .stop) (c .before .before .before .before .before .before .before .loop-test .taken))
+    (s .ensures) refl (omega (arith, k)) (omega (arith, k)) (c .before .next-cycle .ensures) (c .stops-at .ensures)
 
 loop-again : tie.Need-loop-again Inv-loop μ-loop
 loop-again c =
