@@ -12,6 +12,7 @@ use crate::read::Update;
 use crate::read::least;
 use crate::text::BUFFER;
 use crate::text::Sink;
+use clock::Clock;
 use group::group::AnimationGroup;
 use steps::MAX_ENTRIES;
 use timeline::timeline::Added;
@@ -250,10 +251,40 @@ fn set(buffer: &mut [u8; BUFFER], run: Run, cursor: Cursor, t: Timeline) -> Run 
 // Calls 1 and 2: pause and resume.
 fn steering(buffer: &mut [u8; BUFFER], run: Run) -> Run {
     let t = run.timeline;
+    if lends(run.number) {
+        return set(buffer, run, run.cursor, steer_lent(run.byte, t));
+    }
     if run.byte == 1 {
         return set(buffer, run, run.cursor, t.pause());
     }
     set(buffer, run, run.cursor, t.resume())
+}
+
+// Pause, resume and the scale stand twice in the library: calls with an odd number are made on a clock that is lent.
+fn lends(number: usize) -> bool {
+    number % 2 == 1
+}
+
+fn steer_lent(byte: u32, t: Timeline) -> Timeline {
+    let track = t.track;
+    if byte == 1 {
+        return with_clock(t, clock::lend_pause(track.clock));
+    }
+    with_clock(t, clock::lend_resume(track.clock))
+}
+
+fn scale_lent(t: Timeline, scale: f32) -> Timeline {
+    let track = t.track;
+    with_clock(t, clock::lend_set_time_scale(track.clock, scale))
+}
+
+// The timeline, whose clock was lent and came back.
+fn with_clock(t: Timeline, clock: Clock) -> Timeline {
+    let mut track = t.track;
+    track.clock = clock;
+    let mut back = t;
+    back.track = track;
+    back
 }
 
 // Call 7: set_time_scale.
@@ -261,10 +292,13 @@ fn scaling(script: &[u8], buffer: &mut [u8; BUFFER], run: Run) -> Run {
     let t = run.timeline;
     let cursor = run.cursor;
     let scale = cursor.word(script);
-    if scale.whole {
-        return set(buffer, run, scale, t.set_time_scale(scale.float()));
+    if !scale.whole {
+        return run.cut();
     }
-    run.cut()
+    if lends(run.number) {
+        return set(buffer, run, scale, scale_lent(t, scale.float()));
+    }
+    set(buffer, run, scale, t.set_time_scale(scale.float()))
 }
 
 // Call 10: looping.
