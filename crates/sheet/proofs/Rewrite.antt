@@ -19,7 +19,7 @@ use Rattle.sheet_format.specs.Write.{headerBytes, textLength, pairOf, pairsOf, 
 use Rattle.sheet_format.proofs.Bytes.{Bytes, bytes-word}
 use Rattle.sheet_format.proofs.Accepted.{passed, in-turn, Accepted, pair-good}
 use Rattle.steps.proofs.Tests.{and-true}
-use Rattle.sheet.proofs.Five.{loop-back, placement-back}
+use Rattle.sheet_format.proofs.Five.{loop-back, placement-back}
 
 bytes-drop : (n : ℕ) (s : List ℕ) → Bytes s → Bytes (drop n s)
 bytes-drop n s b i = rw (getD-drop n s i 0) (b (n + i))

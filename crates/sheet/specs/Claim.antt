@@ -1,39 +1,20 @@
--- What is claimed of sheets: they read back as they were described, are rewritten byte for byte, and build what their calls build, which the claim of crate history covers.
-use Prim.Native.Nat.{ℕ, _^_, _≤_, _<_}
+-- What is claimed of sheets: they are rewritten byte for byte, and build what their calls build, which the claim of crate history covers. (That
+-- what is written reads back, the contract of sheet_format's `write` says.)
+use Prim.Native.Nat.{ℕ, _≤_, _<_}
 use mathlib.Core.Path.{_≡_}
 use mathlib.Core.List.{List, [], _∷_}
 use lib.ListN.{length, getD}
 use Rattle.refusal.specs.Refusal.{accepted}
-use Rattle.steps.specs.Times.{maxEntries}
-use Rattle.label.specs.Label.{maxLabel}
 use Rattle.timeline.specs.declared.timeline.Timeline.{Timeline}
 use Rattle.timeline.specs.Placements.{empty}
 use Rattle.timeline.specs.Calls.{Call, step, after}
 use Rattle.history.specs.Invariant.{Invariant}
 use Rattle.history.specs.Claim.{Seeks}
-use Rattle.sheet_format.specs.declared.description.Item.{Item}
 use Rattle.sheet_format.specs.declared.description.Description.{Description}
 use Rattle.sheet_format.specs.Check.{checkNumber}
-use Rattle.sheet_format.specs.Descriptions.{blankItem, descriptionIn, describedBy, cleaned}
-use Rattle.sheet_format.specs.Write.{numberOf, secondsOf, writeNumber, writtenBytes}
+use Rattle.sheet_format.specs.Descriptions.{descriptionIn}
+use Rattle.sheet_format.specs.Write.{writeNumber, writtenBytes}
 use Rattle.sheet.specs.Build.{callsOf, built, readCalls, readingOf}
-
--- the numbers of an entry fit their types
-pub record TypedItem (x : Item) : Type 0 where
-  pub duration : x .duration < 2 ^ 32
-  pub seconds : secondsOf (x .at) < 2 ^ 32
-  pub bytes : length (x .label .bytes) ≡ maxLabel
-
--- so do those of a description, as of every value of the struct
-pub record Typed (d : Description) : Type 0 where
-  pub number : numberOf (d .looping) < 2 ^ 32
-  pub scale : d .«time_scale» < 2 ^ 32
-  pub places : length (d .items) ≡ maxEntries
-  pub each : (i : ℕ) → TypedItem (getD (d .items) i blankItem)
-
--- "reading its bytes returns the description, float bits included": of each that the writer accepts, whatever the room
-abbrev pub ReadsBack : Type 0
-ReadsBack = (d : Description) (room : ℕ) → Typed d → writeNumber d room ≡ accepted → describedBy (writtenBytes d room) ≡ record { refusal = accepted; description = cleaned d }
 
 -- "Rewriting an accepted sheet returns its bytes": in any room that is long enough
 abbrev pub Rewrites : Type 0
@@ -54,7 +35,6 @@ pub record Covered (calls : List Call) (t : Timeline) : Type 0 where
 
 -- all of it, which `claimed` carries
 pub record Claim : Type 0 where
-  pub reads-back : ReadsBack
   pub rewrites : Rewrites
   -- what is read from any bytes, and what any description builds
   pub reads : (s : List ℕ) → Covered (readCalls s) (readingOf s .timeline)

@@ -3,9 +3,12 @@
 // `refusal count mode number scale`, and for each entry of the description `  item kind target seconds duration label`;
 // `  timeline state elapsed scale fired mode number count base run`, and for each entry `  entry start duration done label`;
 // of an accepted sheet three times `  write refusal len same rest`, with room for 8 bytes more than the sheet, for the sheet, and
-// for 1 byte less: whether the bytes written are the sheet's, and whether the rest of the room is as it was.
+// for 1 byte less: whether the bytes written are the sheet's, and whether the rest of the room is as it was; then
+// `  spoiled a b c d e f g h`, the numbers by which the writer refuses the description, spoiled in eight ways (spoil.rt), and
+// `  rooms len digest`, the lengths that it answered added up, and the digest of what it left in the eight rooms.
 //
 // A description's floats are given by their bits. Those of a timeline have 7fc00000 for NaN and 00000000 for either zero.
+use crate::spoil;
 use crate::text;
 use crate::text::TEXT;
 use crate::text::least;
@@ -25,7 +28,7 @@ use tween::Loop;
 pub const SHEET: usize = 4096;
 
 // What the room holds before a sheet is written.
-const OLD: u8 = 238;
+pub const OLD: u8 = 238;
 
 // The lines of a sheet.
 pub(crate) fn sheet(out: &mut [u8; TEXT], start: usize, bytes: &[u8]) -> usize {
@@ -41,7 +44,8 @@ pub(crate) fn sheet(out: &mut [u8; TEXT], start: usize, bytes: &[u8]) -> usize {
     let len = least(bytes.len(), SHEET);
     let at = written(out, at, bytes, d, len + 8);
     let at = written(out, at, bytes, d, len);
-    written(out, at, bytes, d, one_less(len))
+    let at = written(out, at, bytes, d, one_less(len));
+    spoil::lines(out, at, d, least(len + 8, SHEET))
 }
 
 fn one_less(n: usize) -> usize {

@@ -5,6 +5,7 @@
 // each sheet the lines of lines.rt are written after a line `sheet k`; or the digest of these lines without the first, FNV-1a in
 // eight hex digits. A sheet that the input does not have whole, or that is longer, is `cut`, and the last.
 mod lines;
+mod spoil;
 mod text;
 
 use libc::STDIN_FILENO;

@@ -4,7 +4,7 @@ ghost use Prim.Native.Nat.{_≤_};
 // The lines of 64 entries with the longest labels are less than 10,200 bytes.
 pub const TEXT: usize = 16_384;
 
-const FNV_OFFSET: u32 = 0x811c_9dc5;
+pub const FNV_OFFSET: u32 = 0x811c_9dc5;
 
 const FNV_PRIME: u64 = 0x0100_0193;
 
@@ -68,10 +68,17 @@ pub(crate) fn float(out: &mut [u8; TEXT], at: usize, x: f32) -> usize {
 // FNV-1a of the bytes of a text from one place to another.
 pub(crate) fn digest(text: &[u8; TEXT], from: usize, to: usize) -> u32 {
     let end = least(to, TEXT);
-    let mut d = FNV_OFFSET;
-    let mut i = from;
-    while i < end {
-        d = with_byte(d, text[i]);
+    let start = least(from, end);
+    let bytes: &[u8] = text;
+    digest_on(FNV_OFFSET, &bytes[start..end])
+}
+
+// A digest, with the bytes that follow.
+pub(crate) fn digest_on(digest: u32, bytes: &[u8]) -> u32 {
+    let mut d = digest;
+    let mut i = 0;
+    while i < bytes.len() {
+        d = with_byte(d, bytes[i]);
         i += 1;
     }
     d

@@ -7,3 +7,6 @@ pub mod Accepted
 pub mod Turns
 pub mod Lefts
 pub mod Sheets
+pub mod Typed
+pub mod Five
+pub mod ReadBack

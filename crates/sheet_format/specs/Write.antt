@@ -1,9 +1,10 @@
 -- The bytes that a description is written as, and when it is refused. Definitions only.
 use Prim.Native.Nat.{ℕ, _+_}
+use mathlib.Core.Path.{_≡_}
 use mathlib.Core.Bool.{Bool, true, cond, _&&_}
 use mathlib.Core.List.{List, [], _∷_, _++_}
 use lib.Dec.{eqb, leb, ltb}
-use lib.ListN.{length, drop}
+use lib.ListN.{length, take, drop}
 use Rattle.refusal.specs.Refusal.{accepted, sheetCount, sheetPlacement, sheetPair, roomTooShort}
 use Rattle.steps.specs.Times.{maxEntries}
 use Rattle.tween.specs.declared.loop_mode.Loop.{Loop}
@@ -16,7 +17,7 @@ use Rattle.sheet_format.specs.declared.description.Description.{Descript
 use Rattle.sheet_format.specs.declared.writing.Written.{Written}
 use Rattle.sheet_format.specs.Words.{bytesOf}
 use Rattle.sheet_format.specs.Check.{unless, labelsAt}
-use Rattle.sheet_format.specs.Descriptions.{itemsIn}
+use Rattle.sheet_format.specs.Descriptions.{itemsIn, describedBy, cleaned}
 
 -- ---- the bytes
 
@@ -136,3 +137,7 @@ writtenAnswer d room = record { refusal = writeNumber d room; len = length (writ
 
 abbrev pub writtenRoom : Description → List ℕ → List ℕ
 writtenRoom d room = writtenBytes d (length room) ++ drop (length (writtenBytes d (length room))) room
+
+-- "reading its bytes returns the description, float bits included": of an accepted description d, the answer, and what the room holds then
+abbrev pub ReadsBack : Description → Written → List ℕ → Type 0
+ReadsBack d r room = r .refusal ≡ accepted → describedBy (take (r .len) room) ≡ record { refusal = accepted; description = cleaned d }

@@ -24,7 +24,7 @@ ghost use Rattle.label.specs.Label.{maxLabel, text};
 ghost use Rattle.digits.specs.Digits.{over};
 ghost use Rattle.refusal.specs.Refusal.{accepted};
 ghost use Rattle.sheet_format.specs.Check.{labelsAt};
-ghost use Rattle.sheet_format.specs.Write.{textsOf, sheetOf, labelsGood, targetGood, targetsGood, describeNumber, writtenAnswer, writtenRoom};
+ghost use Rattle.sheet_format.specs.Write.{textsOf, sheetOf, labelsGood, targetGood, targetsGood, describeNumber, writtenAnswer, writtenRoom, ReadsBack};
 
 // The answer of write: the number, and how long the sheet is; 0 where nothing was written.
 pub struct Written {
@@ -165,10 +165,12 @@ fn put_sheet(room: &mut [u8], d: Description)
     put_texts(room, items, n, labels_at(n));
 }
 
-// Writes a description as a sheet. Room beyond the sheet is untouched; nothing is written on refusal.
+// Writes a description as a sheet, which reads back as that description. Room beyond the sheet is untouched; nothing is written on
+// refusal.
 pub fn write(described: Description, room: &mut [u8]) -> Written
     ensures { λ r. ⌜ r ≡ writtenAnswer described (length (now (room .entry))) ⌝ }
     ensures { λ r. ⌜ now (room .exit) ≡ writtenRoom described (now (room .entry)) ⌝ }
+    ensures { λ r. ⌜ ReadsBack described r (now (room .exit)) ⌝ }
 {
     let refusal = description_refusal(described);
     if refusal != ACCEPTED {

@@ -5,23 +5,24 @@ use mathlib.Core.Bool.{true}
 use mathlib.Core.List.{List, [], _∷_, _++_, append-assoc, map}
 use native.Mathlib.Omega.{arith}
 use borrow.Author.Tests.{leb-true, le-leb, eq-eqb}
-use lib.Dec.{leb, lit<}
+use lib.Dec.{leb}
 use lib.ListN.{length, take, drop, getD, length-append, length-take}
 use lib.Seq.{take-all, take-append-seam, drop-at, drop-drop}
 use Rattle.label.specs.Label.{maxLabel, text}
 use Rattle.sheet_format.specs.declared.description.Item.{Item}
 use Rattle.sheet_format.specs.declared.description.Description.{Description}
 use Rattle.sheet_format.specs.Words.{byteAt, word, bytesOf}
 use Rattle.sheet_format.specs.Check.{headerSize, pairSize, recordSize, recordsAt, labelsAt, countIn, headerNumber, offsetIn, lengthIn, pairsNumber, kindIn, targetIn, secondsIn, durationIn, recordNumber, recordsNumber, checkNumber}
-use Rattle.sheet_format.specs.Descriptions.{blankItem, itemsIn, loopOf, partOf, itemOf, itemsFrom, sheetItems, descriptionIn, cleanItem, cleaned}
-use Rattle.sheet_format.specs.Write.{modeOf, numberOf, kindOf, targetOf, secondsOf, headerBytes, textLength, pairOf, pairsOf, recordOf, recordsOf, textsOf, sheetOf, labelsGood, targetGood, targetsGood, describeNumber}
+use Rattle.sheet_format.specs.declared.writing.Written.{Written}
+use Rattle.sheet_format.specs.Descriptions.{describedBy, blankItem, itemsIn, loopOf, partOf, itemOf, itemsFrom, sheetItems, descriptionIn, cleanItem, cleaned}
+use Rattle.sheet_format.specs.Write.{modeOf, numberOf, kindOf, targetOf, secondsOf, headerBytes, textLength, pairOf, pairsOf, recordOf, recordsOf, textsOf, sheetOf, labelsGood, targetGood, targetsGood, describeNumber, ReadsBack}
 use Rattle.sheet_format.proofs.Bytes.{length-bytes, word-bytes}
 use Rattle.sheet_format.proofs.Accepted.{Header, Accepted}
 use Rattle.steps.proofs.Tests.{and-true}
 use Rattle.sheet_format.proofs.Turns.{length-pair, length-record, length-pairs, length-records}
 use Rattle.sheet_format.proofs.Sheets.{Good, described, length-header, length-items, length-sheet}
-use Rattle.sheet.specs.Claim.{TypedItem, Typed}
-use Rattle.sheet.proofs.Five.{loop-same, loop-good, placement-same, placement-good, zeros-good}
+use Rattle.sheet_format.proofs.Typed.{TypedItem, Typed, blank-typed}
+use Rattle.sheet_format.proofs.Five.{loop-same, loop-good, placement-same, placement-good, zeros-good}
 
 -- ---- what the checks ask, they accept
 
@@ -116,9 +117,6 @@ pairs-accepted len place (x ∷ xs) rest g e h =
     rw (append-assoc (pairOf place (textLength x)) more rest)
     (pairs-step len place (length xs) (textLength x) _ _ (pair-front place (textLength x) (more ++ rest) (omega arith) (omega arith)) m
     ∙ pairs-accepted len (place + textLength x) xs rest (a .1) (omega arith) h)
-
-blank-typed : TypedItem blankItem
-blank-typed = record { duration = lit< tt; seconds = lit< tt; bytes = refl }
 
 -- the entries fit their types
 Each : List Item → Type 0
@@ -276,3 +274,16 @@ module _ (d : Description) (t : Typed d) (z : describeNumber d ≡ 0) where
       let m = texts-short (itemsIn d) (g .labels) in
       let i = items-read (sheetOf d) (labelsAt (d .count)) (itemsIn d) (recordsOf (itemsIn d) ++ textsOf (itemsIn d)) (textsOf (itemsIn d)) each (g .labels) from-records (omega (arith, g .few)) in
       described-as (sheetOf d) d (rw (count-said, from-header, from-pairs) (rw n at i)) (rw (mode-said, number-said) (loop-same (d .looping))) scale-said count-said
+
+-- ---- what the writer leaves
+
+-- an accepted sheet's answer
+described-accepts : (s : List ℕ) (x : Description) → checkNumber s ≡ 0 → descriptionIn s ≡ x → describedBy s ≡ record { refusal = 0; description = x }
+unfolding describedBy
+described-accepts s x e f = rw (e, f)
+
+-- the sheet at the front of a room reads back
+pub reads-back : (d : Description) → Typed d → describeNumber d ≡ 0 → (rest : List ℕ) → ReadsBack d (record { refusal = 0; len = length (sheetOf d) }) (sheetOf d ++ rest)
+reads-back d t z rest e =
+    rw (take-append-seam (sheetOf d) rest)
+    (described-accepts (sheetOf d) _ (check-accepts (sheetOf d) (accepts d t z)) (says d t z))
