@@ -56,8 +56,15 @@ fn refused(out: &mut [u8; TEXT], s: Spoiled, d: Description, size: usize) -> Spo
     Spoiled {
         at,
         len: added(s.len, made.len),
-        digest: text::digest_on(s.digest, &room[..n]),
+        digest: digested(s.digest, &room, n),
     }
+}
+
+// A digest, with the first n bytes of a room.
+fn digested(digest: u32, room: &[u8; SHEET], n: usize) -> u32 {
+    let end = least(n, SHEET);
+    let bytes: &[u8] = room;
+    text::digest_on(digest, &bytes[..end])
 }
 
 // Lengths of eight sheets: far below the largest number.

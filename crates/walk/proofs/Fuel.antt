@@ -11,7 +11,7 @@ use lib.Ieee.{Float}
 use borrow.Author.Tests.{ltb-true, ltb-false}
 use Rattle.walk.specs.declared.Walk.{Walk}
 use Rattle.walk.specs.Completions.{cycleStart, inCycle, lastCycle, nextCycle, breaksAt, stopsAt, cycles}
-use Rattle.walk.specs.Prompt.{unless, turns}
+use Rattle.walk.specs.Prompt.{zeroIf, turns}
 use Rattle.walk.proofs.Cycles.{cycles-stop, top-stops, below-top}
 
 take-same : (n : ℕ) (xs ys zs : List ℕ) → take (n - length xs) ys ≡ take (n - length xs) zs → take n (xs ++ ys) ≡ take n (xs ++ zs)
@@ -25,9 +25,9 @@ take-same (suc n) (x ∷ xs) ys zs h = ap (λ (l : List ℕ). x ∷ l) (take-sam
     less : (n k : ℕ) → suc n - suc k ≡ n - k
     less n k = omega arith
 
-unless-le : (b : Bool) (n : ℕ) → unless b n ≤ n
-unless-le true n = omega arith
-unless-le false n = omega arith
+zero-if-le : (b : Bool) (n : ℕ) → zeroIf b n ≤ n
+zero-if-le true n = omega arith
+zero-if-le false n = omega arith
 
 module _ (w : Walk) (ends : List Float) where
   abbrev listed : ℕ → List ℕ
@@ -125,7 +125,7 @@ module _ (w : Walk) (ends : List Float) where
       let k : c < n = before c (λ (t : n ≤ c). true≢false (sym (S c t h) ∙ e)) in
       let r : turns w ends (room - length (listed c)) fuel (stopsAt w (nextCycle c)) (nextCycle c) ≤ n - nextCycle c =
       few-settled n fuel (room - length (listed c)) (nextCycle c) (stopsAt w (nextCycle c)) S refl (omega arith) in
-      let u = unless-le (ltb room (length (listed c))) (turns w ends (room - length (listed c)) fuel (stopsAt w (nextCycle c)) (nextCycle c)) in
+      let u = zero-if-le (ltb room (length (listed c))) (turns w ends (room - length (listed c)) fuel (stopsAt w (nextCycle c)) (nextCycle c)) in
       omega arith
     where
       before : (c : ℕ) → (n ≤ c → ⊥) → c < n
@@ -147,7 +147,7 @@ module _ (w : Walk) (ends : List Float) where
         after : ℕ
         after = turns w ends (room - length (listed c)) fuel (stopsAt w (nextCycle c)) (nextCycle c)
 
-        go : c < lastCycle → (t u : Bool) → ltb c m ≡ t → ltb room (length (listed c)) ≡ u → after ≤ (m - nextCycle c) + suc (room - length (listed c)) + k → suc (unless u after) ≤ (m - c) + suc room + k
+        go : c < lastCycle → (t u : Bool) → ltb c m ≡ t → ltb room (length (listed c)) ≡ u → after ≤ (m - nextCycle c) + suc (room - length (listed c)) + k → suc (zeroIf u after) ≤ (m - c) + suc room + k
         go b t true p q ih = omega arith
         go b true false p q ih = let x : c < m = ltb-true c m p in omega arith
         go b false false p q ih =
@@ -168,5 +168,5 @@ module _ (w : Walk) (ends : List Float) where
     few-from (suc fuel) room c false K h =
         let after : ℕ = turns w ends (room - length (listed c)) fuel (stopsAt w (nextCycle c)) (nextCycle c) in
         let r : after ≤ (m - nextCycle c) + suc (room - length (listed c)) + k = few fuel (room - length (listed c)) (nextCycle c) (stopsAt w (nextCycle c)) K refl (omega arith) in
-        let u : unless (ltb room (length (listed c))) after ≤ after = unless-le (ltb room (length (listed c))) after in
+        let u : zeroIf (ltb room (length (listed c))) after ≤ after = zero-if-le (ltb room (length (listed c))) after in
         omega arith

@@ -11,7 +11,7 @@ use lib.ListN.{length}
 use borrow.Author.Tests.{le-ltb}
 use Rattle.walk.specs.declared.Walk.{Walk}
 use Rattle.walk.specs.Completions.{cycleStart, inCycle, lastCycle, nextCycle, stopsAt}
-use Rattle.walk.specs.Prompt.{unless, turns}
+use Rattle.walk.specs.Prompt.{zeroIf, turns}
 use Rattle.walk.proofs.Cycles.{below-top}
 
 module _ (w : Walk) (ends : List Float) where
@@ -25,19 +25,19 @@ module _ (w : Walk) (ends : List Float) where
   fuel-more (suc fuel) room c true e h h′ = refl
   fuel-more (suc fuel) room c false e h h′ =
       let l : c < lastCycle = below-top w c h e in
-      ap (λ (n : ℕ). suc (unless (ltb room (many c)) n)) (fuel-more fuel (room - many c) (nextCycle c) (stopsAt w (nextCycle c)) refl (omega arith) (omega arith))
+      ap (λ (n : ℕ). suc (zeroIf (ltb room (many c)) n)) (fuel-more fuel (room - many c) (nextCycle c) (stopsAt w (nextCycle c)) refl (omega arith) (omega arith))
 
   unroll-at : (fuel room c : ℕ) → lastCycle ≤ fuel + nextCycle c
-      → turns w ends room (suc fuel) false c ≡ suc (unless (ltb room (many c)) (turns w ends (room - many c) (suc fuel) (stopsAt w (nextCycle c)) (nextCycle c)))
+      → turns w ends room (suc fuel) false c ≡ suc (zeroIf (ltb room (many c)) (turns w ends (room - many c) (suc fuel) (stopsAt w (nextCycle c)) (nextCycle c)))
   unfolding turns
-  unroll-at fuel room c h = ap (λ (n : ℕ). suc (unless (ltb room (many c)) n)) (fuel-more fuel (room - many c) (nextCycle c) (stopsAt w (nextCycle c)) refl (omega arith) h)
+  unroll-at fuel room c h = ap (λ (n : ℕ). suc (zeroIf (ltb room (many c)) n)) (fuel-more fuel (room - many c) (nextCycle c) (stopsAt w (nextCycle c)) refl (omega arith) h)
 
-  unroll : (room c : ℕ) → turns w ends room (2 ^ 32) false c ≡ suc (unless (ltb room (many c)) (turns w ends (room - many c) (2 ^ 32) (stopsAt w (nextCycle c)) (nextCycle c)))
+  unroll : (room c : ℕ) → turns w ends room (2 ^ 32) false c ≡ suc (zeroIf (ltb room (many c)) (turns w ends (room - many c) (2 ^ 32) (stopsAt w (nextCycle c)) (nextCycle c)))
   unroll room c = unroll-at lastCycle room c (omega arith)
 
   -- one fewer after a turn
   one-fewer : (room c : ℕ) → many c ≤ room → turns w ends (room - many c) (2 ^ 32) (stopsAt w (nextCycle c)) (nextCycle c) < turns w ends room (2 ^ 32) false c
-  one-fewer room c h = le-of-eq (sym (unroll room c ∙ ap (λ (b : Bool). suc (unless b (turns w ends (room - many c) (2 ^ 32) (stopsAt w (nextCycle c)) (nextCycle c)))) (le-ltb room (many c) h)))
+  one-fewer room c h = le-of-eq (sym (unroll room c ∙ ap (λ (b : Bool). suc (zeroIf b (turns w ends (room - many c) (2 ^ 32) (stopsAt w (nextCycle c)) (nextCycle c)))) (le-ltb room (many c) h)))
 
 -- in the values that the code has
 pub turns-less : (w : Walk) (ends : List Float) (room room′ c : ℕ) {stop stop′ : Bool} {c′ k : ℕ} {start : Float}

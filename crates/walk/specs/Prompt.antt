@@ -1,4 +1,4 @@
--- The walk cut short after some number of cycles, and that this loses nothing a lent list has room for. Definitions only.
+-- Every walk is prompt: broken off after a small number of cycles it loses nothing that a lent list has room for. Definitions only.
 use Prim.Native.Nat.{ℕ, zero, suc, _+_, _-_, _≤_, _^_}
 use mathlib.Core.Path.{_≡_}
 use mathlib.Core.Bool.{Bool, true, false, _&&_, _||_}
@@ -17,12 +17,17 @@ use Rattle.walk.specs.declared.Counted.{Counted}
 use Rattle.walk.specs.Answers.{Listed}
 use Rattle.walk.specs.Cases.{sameList}
 
+-- the walk of these entries, from prev to next
+abbrev pub walkIn : Loop → List Entry → Float → Float → Walk
+walkIn mode es prev next = walkOf mode (baseOf es) prev next
+
 -- `completionsBetween`, where the loop is broken off after this many cycles
 unfoldable pub completionsWithin : ℕ → Loop → List Entry → Float → Float → List ℕ
-completionsWithin turns mode es prev next =
+completionsWithin most mode es prev next =
+    let w = walkIn mode es prev next in
     emptyAtNan prev next
-    (noneIf (le next prev || (le (baseOf es) zeroF || le (walkOf mode (baseOf es) prev next .period) zeroF))
-    (cycles (walkOf mode (baseOf es) prev next) (map endAt es) turns (breaksAt (walkOf mode (baseOf es) prev next) (firstCycle (walkOf mode (baseOf es) prev next))) (firstCycle (walkOf mode (baseOf es) prev next))))
+    (noneIf (le next prev || (le (baseOf es) zeroF || le (w .period) zeroF))
+    (cycles w (map endAt es) most (breaksAt w (firstCycle w)) (firstCycle w)))
 
 -- as many cycles as a walk for a list of `room` places goes over at most
 abbrev pub mostCycles : ℕ → ℕ
@@ -40,17 +45,17 @@ PromptAnswer = (mode : Loop) (es : List Entry) (prev next : Float) (old new : Li
 
 -- ---- the cycles that are gone over
 
--- none after a cycle that lists more than there is room for
-abbrev pub unless : Bool → ℕ → ℕ
-unless true n = 0
-unless false n = n
+-- 0 where the test passes
+abbrev pub zeroIf : Bool → ℕ → ℕ
+zeroIf true n = 0
+zeroIf false n = n
 
--- how many the count goes over, with this much room left: until the loop breaks, or a cycle lists more than that
+-- how many the count goes over, with this much room left: until the loop breaks, or up to a cycle that lists more than that
 unfoldable pub turns : Walk → List Float → ℕ → ℕ → Bool → ℕ → ℕ
 turns w ends room zero stop cycle = 0
 turns w ends room (suc fuel) true cycle = 0
 turns w ends room (suc fuel) false cycle =
-    suc (unless (ltb room (length (inCycle w (cycleStart w cycle) 0 ends)))
+    suc (zeroIf (ltb room (length (inCycle w (cycleStart w cycle) 0 ends)))
     (turns w ends (room - length (inCycle w (cycleStart w cycle) 0 ends)) fuel (stopsAt w (nextCycle cycle)) (nextCycle cycle)))
 
 -- of the walk from its first cycle on
@@ -60,11 +65,11 @@ turnsFrom w ends room first = turns w ends room (2 ^ 32) (breaksAt w first) firs
 -- every walk of a step forward goes over so many at most
 abbrev pub FewTurns : Type 0
 FewTurns = (mode : Loop) (es : List Entry) (prev next : Float) (room : ℕ) → lt prev next ≡ true → le (baseOf es) zeroF ≡ false
-    → turnsFrom (walkOf mode (baseOf es) prev next) (map endAt es) room (firstCycle (walkOf mode (baseOf es) prev next)) ≤ mostCycles room
+    → turnsFrom (walkIn mode es prev next) (map endAt es) room (firstCycle (walkIn mode es prev next)) ≤ mostCycles room
 
 -- how close that is: an entry of 0.11 ms at 0, played Forever, from 135 h and 21 min on for 0.03 s. Its first completion is in the 386th cycle
 unfoldable pub slowWalk : ℕ → List ℕ
-slowWalk turns = completionsWithin turns Forever (record { start = zeroF; duration = ofBits binary32 0x38edeecc; done = false } ∷ []) (ofBits binary32 0x48edebf1) (ofBits binary32 0x48edebf2)
+slowWalk most = completionsWithin most Forever (record { start = zeroF; duration = ofBits binary32 0x38edeecc; done = false } ∷ []) (ofBits binary32 0x48edebf1) (ofBits binary32 0x48edebf2)
 
 -- so 385 cycles are not enough for a list with no place
 unfoldable pub slowAsSaid : Bool
