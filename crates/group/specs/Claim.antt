@@ -22,7 +22,7 @@ use Rattle.group.specs.Group.{parallelOf, sequenceOf, staggerOf}
 pub record Covered (t : Timeline) : Type 0 where
   pub calls : List Call
   pub made : t ≡ after empty calls
-  pub seeks : Seeks calls t
+  pub seeks : Seeks t
   pub sound : Invariant t
 
 -- all of it, which `claimed` carries

@@ -11,7 +11,7 @@ use Rattle.steps.specs.Times.{twoF, baseOf, runOf, localTime}
 use Rattle.steps.specs.Rows.{synced, cleared, ticked, tickedIn, tickedOver, tickRow}
 use Rattle.walk.specs.Completions.{completionsBetween}
 use Rattle.clock.specs.declared.TimelineState.the-variants.{Completed}
-use Rattle.clock.specs.Clocks.{isPlaying, isCompleted, withState, scaled, started, playState, played, seekTo as comesTo, seekState, sought, nextElapsed, advancedClock}
+use Rattle.clock.specs.Clocks.{isPlaying, isCompleted, withState, scaled, started, playState, played, seekTo, seekState, sought, nextElapsed, advancedClock}
 use Rattle.track.specs.Tracks.{trackBase, trackRun, emptyTrack}
 use Rattle.track.specs.Updates.{aboveOne, ticks, newlyDone, tickedTo, syncedTo, playing}
 use Rattle.track.specs.Calls.{Room, Looping, SetTimeScale, Play, Update, sent, playRule, soughtTo, advancedTo, updated, updatedWith, trackStep}
@@ -19,7 +19,7 @@ use Rattle.timeline.specs.declared.timeline.At.the-variants.{Start}
 use Rattle.timeline.specs.Placements.{empty, resolveStart}
 use Rattle.timeline.specs.Calls.{Call, Add, On, addedAt, step, after}
 use Rattle.history.specs.Entries.{doneMarks}
-use Rattle.history.specs.Claim.{elapsedOf, stateOf, isAccepted, notes, seekTo}
+use Rattle.history.specs.Claim.{elapsedOf, stateOf, isAccepted, notes, seekAbs}
 
 -- 0.5
 abbrev halfF : Float
@@ -34,34 +34,34 @@ abbrev lasting : Float → Call
 lasting duration = Add (97 ∷ []) Start duration
 
 -- ---- the clauses
--- 3, Completed staying Completed
+-- 4, Completed staying Completed
 abbrev StaysCompleted : Type 0
 StaysCompleted = (calls : List Call) (secs : Float) (room : Room) →
     let t = after empty calls in
-    let u = step t (seekTo secs room) .timeline in
-    isAccepted t (seekTo secs room) ≡ true → stateOf u ≡ cond (finiteF (trackRun (t .track)) && eq (trackRun (t .track)) (elapsedOf u)) Completed (stateOf t)
+    let u = step t (seekAbs secs room) .timeline in
+    isAccepted t (seekAbs secs room) ≡ true → stateOf u ≡ cond (finiteF (trackRun (t .track)) && eq (trackRun (t .track)) (elapsedOf u)) Completed (stateOf t)
 
--- 2, the elapsed time strictly below the run
+-- 3, the elapsed time strictly below the run
 abbrev BelowRun : Type 0
 BelowRun = (calls : List Call) (secs : Float) (room : Room) →
     let t = after empty calls in
-    isAccepted t (seekTo secs room) ≡ true → lt (elapsedOf (step t (seekTo secs room) .timeline)) (trackRun (t .track)) ≡ true
+    isAccepted t (seekAbs secs room) ≡ true → lt (elapsedOf (step t (seekAbs secs room) .timeline)) (trackRun (t .track)) ≡ true
 
--- 4, an update noted in Once too: a seek to its place on the timeline n that it left
+-- 5, an update noted in Once too: a seek to its place on the timeline n that it left
 abbrev OnceNoted : Type 0
 OnceNoted = (before : List Call) (dt : Float) (replies : List ℕ) (list : ℕ) (room : Room) →
     let t = after empty before in
     let n = step t (On (Update dt replies list room)) .timeline in
     isAccepted t (On (Update dt replies list room)) ≡ true → isPlaying (stateOf t) ≡ true → lt zeroF (trackBase (n .track)) ≡ true → isNan (elapsedOf n) ≡ false
-    → isAccepted n (seekTo (elapsedOf n) room) ≡ true → doneMarks (step n (seekTo (elapsedOf n) room) .timeline) ≡ doneMarks n
+    → isAccepted n (seekAbs (elapsedOf n) room) ≡ true → doneMarks (step n (seekAbs (elapsedOf n) room) .timeline) ≡ doneMarks n
 
--- 4, a NaN noted too, likewise
+-- 5, a NaN noted too, likewise
 abbrev NanNoted : Type 0
 NanNoted = (before : List Call) (call : Call) (room : Room) →
     let t = after empty before in
     let n = step t call .timeline in
     notes t call ≡ true → lt zeroF (trackBase (n .track)) ≡ true
-    → isAccepted n (seekTo (elapsedOf n) room) ≡ true → doneMarks (step n (seekTo (elapsedOf n) room) .timeline) ≡ doneMarks n
+    → isAccepted n (seekAbs (elapsedOf n) room) ≡ true → doneMarks (step n (seekAbs (elapsedOf n) room) .timeline) ≡ doneMarks n
 
 -- ---- none of them holds
 first-differs : (xs ys : List Bool) → _≡_ {A = List Bool} (false ∷ xs) (true ∷ ys) → ⊥
@@ -74,11 +74,11 @@ pub record Refuted : Type 0 where
   pub nan-noted : NanNoted → ⊥
 
 pub refuted : Refuted
-unfolding after step trackStep addedAt resolveStart empty emptyTrack sent soughtTo scaled playRule played started playState withState sought seekState comesTo updatedWith updated advancedTo playing tickedTo syncedTo ticks newlyDone aboveOne nextElapsed advancedClock ticked tickedIn tickedOver tickRow synced cleared baseOf runOf localTime completionsBetween maxF minF ofBits add sub mul div rem lt le eq isNan
+unfolding after step trackStep addedAt resolveStart empty emptyTrack sent soughtTo scaled playRule played started playState withState sought seekState seekTo updatedWith updated advancedTo playing tickedTo syncedTo ticks newlyDone aboveOne nextElapsed advancedClock ticked tickedIn tickedOver tickRow synced cleared baseOf runOf localTime completionsBetween maxF minF ofBits add sub mul div rem lt le eq isNan
 refuted =
     record {
       -- one second long, sought to its end and then to 0.5
-      stays-completed = λ h. false≢true (ap isCompleted (h (lasting oneF ∷ seekTo oneF two ∷ []) halfF two refl));
+      stays-completed = λ h. false≢true (ap isCompleted (h (lasting oneF ∷ seekAbs oneF two ∷ []) halfF two refl));
       -- one second long, sought to its end
       below-run = λ h. false≢true (h (lasting oneF ∷ []) oneF two refl);
       -- one second long, updated by 0.5, where the leaf replies that it stopped: its entry is done before its end

@@ -10,8 +10,8 @@ use Rattle.history.proofs.Kept.{kept}
 use Rattle.history.proofs.Claim.{claim}
 
 module _ (t : Timeline) (calls : List Call) (made : t ≡ after empty calls) where
-  pub covered : Seeks calls t
-  covered = subst (Seeks calls) (sym made) (claim calls)
+  pub covered : Seeks t
+  covered = subst Seeks (sym made) (claim calls .1)
 
   pub covered-sound : Invariant t
   covered-sound = subst Invariant (sym made) (kept .list calls)

@@ -49,7 +49,7 @@ AllAccepted t (call ∷ calls) = (step t call .refusal ≡ accepted) × AllAccep
 -- "Readers and builders hand out what such lists give": so the claim of crate history and its invariant hold of the timeline t
 pub record Covered (calls : List Call) (t : Timeline) : Type 0 where
   pub made : t ≡ after empty calls
-  pub seeks : Seeks calls t
+  pub seeks : Seeks t
   pub sound : Invariant t
 
 -- all of it, which `claimed` carries
