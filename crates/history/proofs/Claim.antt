@@ -1,5 +1,5 @@
 -- The claim about whole lists of calls, and what follows from it.
-use mathlib.Core.Path.{_≡_, refl, sym, ap, _∙_}
+use mathlib.Core.Path.{_≡_, refl, sym, ap, _∙_, subst}
 use mathlib.Core.Logic.{inl, inr}
 use mathlib.Core.Bool.{Bool, true, false, _&&_, _||_, cond}
 use mathlib.Core.List.{List, [], _∷_, map}
@@ -8,8 +8,8 @@ use lib.Dec.{ltb}
 use lib.ListN.{length, length-map}
 use lib.Ieee.{Float, binary32, sub, div, le, eq}
 use Rattle.float32.specs.Helpers.{zeroF, oneF, finiteF, nonnegF}
-use Rattle.float32.proofs.Order.{not-lt-of-le}
-use Rattle.float32.proofs.Nonneg.{nonneg-no-nan, zero-le-nonneg}
+use Rattle.float32.proofs.Order.{le-of-eq, le-trans, not-lt-of-le}
+use Rattle.float32.proofs.Nonneg.{nonneg-no-nan, nonneg-of-ge, zero-le-nonneg}
 use Rattle.steps.specs.declared.Entry.{Entry}
 use Rattle.steps.specs.declared.Stepped.{Stepped}
 use Rattle.steps.specs.Times.{endAt}
@@ -18,19 +18,21 @@ use Rattle.clock.specs.declared.TimelineState.{TimelineState}
 use Rattle.clock.specs.declared.TimelineState.the-variants.{Idle, Playing, Paused, Completed}
 use Rattle.track.specs.declared.track.Track.{Track}
 use Rattle.clock.specs.Clocks.{seekTo, unended, seekState, sought}
-use Rattle.track.specs.Tracks.{live, trackRun, rowsOf}
+use Rattle.track.specs.Tracks.{live, trackBase, trackRun, rowsOf}
 use Rattle.track.specs.Calls.{Room, short, trackStep}
 use Rattle.timeline.specs.declared.timeline.Timeline.{Timeline}
 use Rattle.timeline.specs.Placements.{empty}
-use Rattle.timeline.specs.Calls.{Call, Out, onTrack, step, after}
+use Rattle.timeline.specs.Calls.{Out, onTrack, step, after}
 use Rattle.history.specs.Entries.{SameEntries, doneMarks}
-use Rattle.history.specs.Claim.{elapsedOf, stateOf, isAccepted, Noted, OneStep, AllOneStep, goingOn, seekAbs, SamePlace, Alike, Sought, Seeks, Claim, PlacesAgree}
-use Rattle.history.proofs.Runs.{seek-nonneg, seek-most}
+use Rattle.history.specs.Claim.{elapsedOf, stateOf, isAccepted, Noted, OneStep, AllOneStep, goingOn, seekAbs, SamePlace, ComesBack, Alike, Sought, Seeks, Claim, PlacesAgree}
+use Rattle.history.proofs.Runs.{base-nonneg, seek-nonneg, seek-most, seek-stays}
 use Rattle.history.proofs.Spans.{synced-same, runs, locals, lengths, same-refl}
 use Rattle.history.proofs.Kept.{empty-kept}
 use Rattle.history.proofs.Built.{own-builds}
 use Rattle.history.proofs.Sending.{soughtClock, soughtAll, seek-room, seek-is}
-use Rattle.history.proofs.Synced.{marksAt, marks-at-same, localAt, sync-marks, run-sound}
+use Rattle.history.proofs.Synced.{Synced, marksAt, marks-at-same, localAt, sync-marks, run-sound}
+use Rattle.history.proofs.Equal.{eq-flip, Same}
+use Rattle.history.proofs.Places.{local-same, marks-equal}
 use Rattle.history.proofs.Noted.{noted-synced}
 
 -- ---- an accepted seek
@@ -111,15 +113,44 @@ unfolding seekState
 state-is total elapsed s h = rw (le-is-eq total elapsed h, unended-is s)
 
 -- ---- 5. noted places
-back : (t n : Timeline) → SameEntries t n → Noted n → SamePlace (soughtOut t (elapsedOf n) .timeline) n
-back t n s m =
-    let y = noted-synced n m in
-    record {
-      elapsed = unfold sought in elapsed-same t n s (elapsedOf n) ∙ y .stays (m .number);
-      marks =
-          sought-marks t (elapsedOf n) ∙ marks-same t n s (elapsedOf n)
-          ∙ ap (λ (x : Float). marksAt (localAt (n .track) x) (live (n .track))) (y .stays (m .number)) ∙ sym (y .marks);
-    }
+module _ (t n : Timeline) (s : SameEntries t n) (m : Noted n) where
+  synced-there : Synced (n .track)
+  synced-there = noted-synced n m
+
+  -- the noted second is kept by a seek
+  kept : seekTo (trackRun (n .track)) (elapsedOf n) ≡ elapsedOf n
+  kept = synced-there .stays (m .number)
+
+  -- the marks come back wherever the seek goes to the noted second
+  marks-back : (secs : Float) → Same (seekTo (trackRun (n .track)) secs) (elapsedOf n) → doneMarks (soughtOut t secs .timeline) ≡ doneMarks n
+  marks-back secs e =
+      sought-marks t secs ∙ marks-same t n s secs ∙ marks-equal (place (n .track) secs) (localAt (n .track) (elapsedOf n)) (local e) (live (n .track)) ∙ sym (synced-there .marks)
+    where
+      local : Same (seekTo (trackRun (n .track)) secs) (elapsedOf n) → Same (place (n .track) secs) (localAt (n .track) (elapsedOf n))
+      local (inl e) = inl (ap (localAt (n .track)) e)
+      local (inr e) = local-same (trackBase (n .track)) (base-nonneg (live (n .track))) (seekTo (trackRun (n .track)) secs) (elapsedOf n) e (n .track .looping)
+
+  exact : SamePlace (soughtOut t (elapsedOf n) .timeline) n
+  exact = record { elapsed = unfold sought in elapsed-same t n s (elapsedOf n) ∙ kept; marks = marks-back (elapsedOf n) (inl kept) }
+
+  -- a second that equals the noted one is kept too
+  there : (secs : Float) → eq secs (elapsedOf n) ≡ true → seekTo (trackRun (n .track)) secs ≡ secs
+  there secs e =
+      let run = trackRun (n .track) in
+      let sound : nonnegF (elapsedOf n) ≡ true = subst (λ (x : Float). nonnegF x ≡ true) kept (seek-nonneg run (run-sound (n .track)) (elapsedOf n)) in
+      let most : le (elapsedOf n) run ≡ true = subst (λ (x : Float). le x run ≡ true) kept (seek-most run (run-sound (n .track)) (elapsedOf n)) in
+      seek-stays run (run-sound (n .track)) secs
+      (nonneg-of-ge (elapsedOf n) secs sound (le-of-eq (elapsedOf n) secs (eq-flip secs (elapsedOf n) e)))
+      (le-trans secs (elapsedOf n) run (le-of-eq secs (elapsedOf n) e) most)
+
+  back : (secs : Float) → ComesBack secs (soughtOut t secs) n
+  unfolding sought
+  back secs =
+      record {
+        exact = λ e. rw e exact;
+        there = λ e. rw (elapsed-same t n s secs, there secs e) e;
+        marks = λ e. marks-back secs (inr (rw (elapsed-same t n s secs) at e));
+      }
 
 -- ---- the claim
 sought-is : (t : Timeline) (secs : Float) (room : Room) → short room (t .track) ≡ false → Sought t secs room (soughtOut t secs)
@@ -134,7 +165,7 @@ sought-is t secs room h =
       least = unfold sought in zero-le-nonneg (seekTo (trackRun (t .track)) secs) sound;
       most = unfold sought in most;
       state = unfold sought in state-is (trackRun (t .track)) (seekTo (trackRun (t .track)) secs) (stateOf t) most;
-      back = λ n m s e. rw e (back t n s m);
+      back = λ n m s. back t n s m secs;
     }
   where
     sound : nonnegF (seekTo (trackRun (t .track)) secs) ≡ true
@@ -155,4 +186,4 @@ claim calls =
     (record { build = own .build; same = own .same }, seeks (after empty calls))
 
 pub places-agree : PlacesAgree
-places-agree calls n room m s a = seeks (after empty calls) (elapsedOf n) room a .back n m s refl
+places-agree calls n secs room m s a = seeks (after empty calls) secs room a .back n m s

@@ -10,7 +10,9 @@ pub mod Added
 pub mod Kept
 pub mod Built
 pub mod Sending
+pub mod Equal
 pub mod Synced
+pub mod Places
 pub mod Noted
 pub mod Claim
 pub mod Covered

@@ -127,6 +127,14 @@ pub record Alike (o o′ : Out) : Type 0 where
   pub place : SamePlace (o .timeline) (o′ .timeline)
   pub rows : o .rows ≡ o′ .rows
 
+-- what the seek to secs, which gave o, makes of the place that n noted; `eq` takes zeros of either sign for one second
+pub record ComesBack (secs : Float) (o : Out) (n : Timeline) : Type 0 where
+  -- a seek to the noted second goes there, to the bit, and leaves the marks noted
+  pub exact : secs ≡ elapsedOf n → SamePlace (o .timeline) n
+  pub there : eq secs (elapsedOf n) ≡ true → eq (elapsedOf (o .timeline)) (elapsedOf n) ≡ true
+  -- a seek to any second that goes there leaves the marks noted
+  pub marks : eq (elapsedOf (o .timeline)) (elapsedOf n) ≡ true → doneMarks (o .timeline) ≡ doneMarks n
+
 -- one step and no more. Of "a byte (number of resets 0 to 2, plus 4 for an update, plus 8 for a seek), the update amount, and the seek
 -- place; absent amounts are 0.0" a row has one reset, or one seek and its place
 abbrev pub OneStep : Row → Type 0
@@ -163,7 +171,7 @@ pub record Sought (t : Timeline) (secs : Float) (room : Room) (o : Out) : Type 0
   -- 4. Completed exactly at the end of a finite run
   pub state : stateOf (o .timeline) ≡ cond (finiteF (trackRun (t .track)) && eq (trackRun (t .track)) (elapsedOf (o .timeline))) Completed (goingOn (stateOf t))
   -- 5. noted places come back
-  pub back : (n : Timeline) → Noted n → SameEntries t n → secs ≡ elapsedOf n → SamePlace (o .timeline) n
+  pub back : (n : Timeline) → Noted n → SameEntries t n → ComesBack secs o n
 
 -- what is claimed of seeks on the timeline t: every accepted one gives that
 abbrev pub Seeks : Timeline → Type 0
@@ -180,13 +188,14 @@ Seeks t = (secs : Float) (room : Room) → isAccepted t (seekAbs secs room) ≡ 
 -- 4. leaves the state Completed exactly where the run is finite and the elapsed time equals it; elsewhere it leaves the state of before,
 --    but Playing where that was Completed;
 -- 5. brings noted places back. A place is noted, in any such list, right after an accepted seek of either kind, or right after an accepted
---    update while Playing in a mode other than Once, where the base is above 0 and the elapsed time is no NaN. A seek to it, on any timeline
---    of the same entries and loop mode, leaves exactly the elapsed time and the marks that were noted.
+--    update while Playing in a mode other than Once, where the base is above 0 and the elapsed time is no NaN. On any timeline of the same
+--    entries and loop mode, a seek that goes to the elapsed time noted leaves the marks noted, whatever second it was asked for, zeros of
+--    either sign being the same second. A seek to that second goes there: asked for it to the bit, it leaves it to the bit.
 abbrev pub Claim : Type 0
 Claim = (calls : List Call) → OwnBuilt calls (after empty calls) × Seeks (after empty calls)
 
 -- The steward's question. Two timelines have any histories, and the same entries and loop mode. One notes its place, the other takes a
--- seek to it. Then both show the same elapsed time and the same marks.
+-- seek. Where that goes to the place, both show the same elapsed time and the same marks; and a seek to it goes there.
 abbrev pub PlacesAgree : Type 0
-PlacesAgree = (calls : List Call) (n : Timeline) (room : Room) → Noted n → SameEntries (after empty calls) n
-    → isAccepted (after empty calls) (seekAbs (elapsedOf n) room) ≡ true → SamePlace (step (after empty calls) (seekAbs (elapsedOf n) room) .timeline) n
+PlacesAgree = (calls : List Call) (n : Timeline) (secs : Float) (room : Room) → Noted n → SameEntries (after empty calls) n
+    → isAccepted (after empty calls) (seekAbs secs room) ≡ true → ComesBack secs (step (after empty calls) (seekAbs secs room)) n
