@@ -174,8 +174,8 @@ sought-is t secs room h =
     most : le (seekTo (trackRun (t .track)) secs) (trackRun (t .track)) ≡ true
     most = seek-most (trackRun (t .track)) (run-sound (t .track)) secs
 
--- of any timeline
-pub seeks : (t : Timeline) → Seeks t
+-- every accepted seek, on any timeline
+seeks : (t : Timeline) → Seeks t
 seeks t secs room a =
     let h = seek-taken t secs room a in
     rw (seek-out t secs room h) (sought-is t secs room h)

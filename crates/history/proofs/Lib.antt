@@ -1,4 +1,4 @@
--- Why the claim holds. What later crates cite: Covered (what readers and builders hand out) and Kept (the invariant).
+-- Why the claim holds. What later crates cite: Covered (what the claim covers, and what holds of it).
 pub mod Calls
 pub mod Runs
 pub mod Spans

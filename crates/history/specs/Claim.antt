@@ -1,5 +1,5 @@
 -- The claim about whole lists of calls (paper 01, "Agreed between us"): `Claim`, at the end, says it in words. Its proof is `claim` of
--- proofs/Claim.antt.
+-- proofs/Claim.antt. Covered.antt says which timelines come of such lists.
 use mathlib.Core.Path.{_≡_}
 use mathlib.Core.Logic.{_⊎_}
 use mathlib.Core.Bool.{Bool, true, false, not, _&&_, cond}
@@ -74,7 +74,7 @@ unfoldable pub ownBuild : Timeline → List Call → List Call
 ownBuild t [] = []
 ownBuild t (call ∷ calls) = keepCall (builds call && isAccepted t call) call (ownBuild (step t call .timeline) calls)
 
--- "the list's own such calls make one": each is accepted, and together they make the entries and the loop mode of the timeline t that the list made
+-- "the list's own such calls make one": each is accepted, and they make the entries and the loop mode of the timeline t that the list made
 pub record OwnBuilt (calls : List Call) (t : Timeline) : Type 0 where
   pub build : AllBuild empty (ownBuild empty calls)
   pub same : SameEntries t (after empty (ownBuild empty calls))
@@ -129,8 +129,9 @@ pub record Alike (o o′ : Out) : Type 0 where
 
 -- what the seek to secs, which gave o, makes of the place that n noted; `eq` takes zeros of either sign for one second
 pub record ComesBack (secs : Float) (o : Out) (n : Timeline) : Type 0 where
-  -- a seek to the noted second goes there, to the bit, and leaves the marks noted
+  -- a seek to the noted second, given to the bit, leaves it to the bit, and the marks noted
   pub exact : secs ≡ elapsedOf n → SamePlace (o .timeline) n
+  -- a seek to a second equal to it goes there
   pub there : eq secs (elapsedOf n) ≡ true → eq (elapsedOf (o .timeline)) (elapsedOf n) ≡ true
   -- a seek to any second that goes there leaves the marks noted
   pub marks : eq (elapsedOf (o .timeline)) (elapsedOf n) ≡ true → doneMarks (o .timeline) ≡ doneMarks n
@@ -190,7 +191,7 @@ Seeks t = (secs : Float) (room : Room) → isAccepted t (seekAbs secs room) ≡ 
 -- 5. brings noted places back. A place is noted, in any such list, right after an accepted seek of either kind, or right after an accepted
 --    update while Playing in a mode other than Once, where the base is above 0 and the elapsed time is no NaN. On any timeline of the same
 --    entries and loop mode, a seek that goes to the elapsed time noted leaves the marks noted, whatever second it was asked for, zeros of
---    either sign being the same second. A seek to that second goes there: asked for it to the bit, it leaves it to the bit.
+--    either sign being the same second. A seek to that second goes there, and one that is given it to the bit leaves it to the bit.
 abbrev pub Claim : Type 0
 Claim = (calls : List Call) → OwnBuilt calls (after empty calls) × Seeks (after empty calls)
 
