@@ -1,8 +1,8 @@
--- The claim of crate history covers what the builders hand out, and an accepted builder's calls are accepted.
+-- The claim of crate history covers what the builders hand out and what the controls leave, and an accepted builder's calls are accepted.
 use Prim.Native.Nat.{ℕ, _+_, _≤_}
-use mathlib.Core.Path.{_≡_, refl, sym, ap, _∙_}
+use mathlib.Core.Path.{_≡_, refl, ap, _∙_}
 use mathlib.Core.Bool.{Bool, true, false, cond, _||_}
-use mathlib.Core.List.{List, [], _∷_, _++_}
+use mathlib.Core.List.{List, [], _∷_}
 use native.Mathlib.Omega.{arith}
 use lib.Dec.{eqb, ltb}
 use lib.ListN.{length}
@@ -15,70 +15,70 @@ use Rattle.tween.specs.declared.stagger_pattern.StaggerPattern.the-variants.{Gr
 use Rattle.tween.specs.StaggerPattern.{maxSide, gridDelay, acceptedDelay, refusedDelay, delayOf}
 use Rattle.steps.specs.Times.{maxEntries}
 use Rattle.track.specs.Tracks.{emptyTrack}
+use Rattle.track.specs.Calls.{SetTimeScale, Play, Pause, Resume, Reset, Seek, Update}
 use Rattle.timeline.specs.declared.timeline.At.{At}
 use Rattle.timeline.specs.declared.timeline.At.the-variants.{Absolute}
 use Rattle.timeline.specs.declared.timeline.Timeline.{Timeline}
 use Rattle.timeline.specs.Placements.{empty}
-use Rattle.timeline.specs.Calls.{Call, Add, AddBoxed, Out, step, after, addedBy}
+use Rattle.timeline.specs.Calls.{Call, Add, AddBoxed, On, Out, step, after, addedBy}
 use Rattle.history.specs.Claim.{AllBuild}
-use Rattle.history.proofs.Covered as history
+use Rattle.history.specs.Covered.{Covered}
+use Rattle.history.proofs.Covered.{coverage}
+use Rattle.group.specs.declared.group.AnimationGroup.{AnimationGroup}
 use Rattle.group.specs.declared.sequence.Sequence.{Sequence}
 use Rattle.group.specs.declared.sequence.Sequenced.{Sequenced}
 use Rattle.group.specs.Items.{itemLabel, itemCalls, builtBy}
 use Rattle.group.specs.Sequence.{SequenceCall, Then, ThenFor, Gap, newSequence, advance, thenBy, sequenceStep, sequenceAfter}
 use Rattle.group.specs.Stagger.{staggered}
-use Rattle.group.specs.Group.{parallelOf, sequenceOf, staggerOf}
-use Rattle.group.specs.Claim.{Covered, Claim}
+use Rattle.group.specs.Group.{parallelOf, sequenceOf, staggerOf, reverseCall}
+use Rattle.group.specs.Claim.{CoveredGroup, Controlled, Claim}
 use Rattle.group.proofs.Items.{item-added}
 
--- what a list of calls makes is covered
-covered : (calls : List Call) (t : Timeline) → t ≡ after empty calls → Covered t
-covered calls t e = record { calls = calls; made = e; seeks = history.covered t calls e; sound = history.covered-sound t calls e }
-
 -- ---- sequences
+either-covered : (b : Bool) (x y : Sequenced) → Covered (x .sequence .inner) → Covered (y .sequence .inner) → Covered (cond b x y .sequence .inner)
+either-covered true x y p q = p
+either-covered false x y p q = q
 
--- a list of calls makes the timeline
-record Made (t : Timeline) : Type 0 where
-  calls : List Call
-  made : t ≡ after empty calls
-
-step-made : (t : Timeline) (call : Call) → Made t → Made (step t call .timeline)
-unfolding after
-step-made t call m =
-    record {
-      calls = m .calls ++ (call ∷ []);
-      made = ap (λ (x : Timeline). step x call .timeline) (m .made) ∙ sym (history.after-append empty (m .calls) (call ∷ []));
-    }
-
-either-made : (b : Bool) (x y : Sequenced) → Made (x .sequence .inner) → Made (y .sequence .inner) → Made (cond b x y .sequence .inner)
-either-made true x y p q = p
-either-made false x y p q = q
-
-then-made : (s : Sequence) (call : Call) (duration : Float) → Made (s .inner) → Made (thenBy s (addedBy (step (s .inner) call)) duration .sequence .inner)
+then-covered : (s : Sequence) (call : Call) (duration : Float) → Covered (s .inner) → Covered (thenBy s (addedBy (step (s .inner) call)) duration .sequence .inner)
 unfolding thenBy
-then-made s call duration m =
+then-covered s call duration m =
     let o = step (s .inner) call in
-    either-made (eqb (o .refusal) accepted)
+    either-covered (eqb (o .refusal) accepted)
     (record { refusal = accepted; sequence = record { inner = o .timeline; cursor = advance (s .cursor) duration } })
     (record { refusal = o .refusal; sequence = s })
-    (step-made (s .inner) call m) m
+    (coverage .calls (s .inner) call m) m
 
-call-made : (s : Sequence) (call : SequenceCall) → Made (s .inner) → Made (sequenceStep s call .sequence .inner)
+call-covered : (s : Sequence) (call : SequenceCall) → Covered (s .inner) → Covered (sequenceStep s call .sequence .inner)
 unfolding sequenceStep
-call-made s (Then name duration) m = then-made s (Add name (Absolute (s .cursor)) duration) duration m
-call-made s (ThenFor name duration) m = then-made s (AddBoxed name (Absolute (s .cursor)) (maxF duration zeroF)) duration m
-call-made s (Gap seconds) m = m
+call-covered s (Then name duration) m = then-covered s (Add name (Absolute (s .cursor)) duration) duration m
+call-covered s (ThenFor name duration) m = then-covered s (AddBoxed name (Absolute (s .cursor)) (maxF duration zeroF)) duration m
+call-covered s (Gap seconds) m = m
 
-calls-made : (s : Sequence) (calls : List SequenceCall) → Made (s .inner) → Made (sequenceAfter s calls .inner)
+calls-covered : (s : Sequence) (calls : List SequenceCall) → Covered (s .inner) → Covered (sequenceAfter s calls .inner)
 unfolding sequenceAfter
-calls-made s [] m = m
-calls-made s (call ∷ calls) m = calls-made (sequenceStep s call .sequence) calls (call-made s call m)
+calls-covered s [] m = m
+calls-covered s (call ∷ calls) m = calls-covered (sequenceStep s call .sequence) calls (call-covered s call m)
 
 sequences : (calls : List SequenceCall) → Covered (sequenceAfter newSequence calls .inner)
 unfolding newSequence after
-sequences calls =
-    let m = calls-made newSequence calls (record { calls = []; made = refl }) in
-    covered (m .calls) _ (m .made)
+sequences calls = calls-covered newSequence calls (coverage .lists [])
+
+-- ---- controls
+controls : (g : AnimationGroup) → CoveredGroup g → Controlled g
+controls g c =
+    record {
+      play = λ room. left (On (Play room));
+      pause = left (On Pause);
+      resume = left (On Resume);
+      reset = λ room. left (On (Reset room));
+      seek = λ share room. left (On (Seek share room));
+      reverse = λ room. left (reverseCall (g .inner) room);
+      scale = λ x. left (On (SetTimeScale x));
+      update = λ dt replies list room. left (On (Update dt replies list room));
+    }
+  where
+    left : (call : Call) → Covered (step (g .inner) call .timeline)
+    left call = coverage .calls (g .inner) call c
 
 -- ---- no call of an accepted builder is refused
 accepts : (at : ℕ → At) (ds : List Float) (t : Timeline) (i : ℕ) → t .track .count ≡ i → i + length ds ≤ maxEntries → AllBuild t (itemCalls at i ds)
@@ -107,10 +107,11 @@ unfolding staggered parallelOf sequenceOf staggerOf builtBy empty emptyTrack
 claim =
     record {
       sequences = sequences;
-      staggers = λ ds delay. covered _ _ refl;
-      parallels = λ ds. covered _ _ refl;
-      group-sequences = λ ds. covered _ _ refl;
-      group-staggers = λ ds p. covered _ _ refl;
+      staggers = λ ds delay. coverage .lists _;
+      parallels = λ ds. coverage .lists _;
+      group-sequences = λ ds. coverage .lists _;
+      group-staggers = λ ds p. coverage .lists _;
+      controls = controls;
       accepts = λ at ds h. accepts at ds empty 0 refl (omega arith);
       patterns = patterns;
     }

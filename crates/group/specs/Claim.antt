@@ -1,4 +1,4 @@
--- What is claimed of the builders: the claim of crate history covers all that they hand out, and an accepted builder's calls are accepted, each one.
+-- What is claimed of builders and groups: the claim of crate history covers all that they hand out and all that the controls leave, and an accepted builder's calls are accepted, each one.
 use Prim.Native.Nat.{ℕ, _≤_}
 use mathlib.Core.Path.{_≡_}
 use mathlib.Core.List.{List}
@@ -7,23 +7,33 @@ use lib.Ieee.{Float}
 use Rattle.tween.specs.declared.stagger_pattern.StaggerPattern.{StaggerPattern}
 use Rattle.tween.specs.StaggerPattern.{delayOf}
 use Rattle.steps.specs.Times.{maxEntries}
+use Rattle.track.specs.Calls.{Room, SetTimeScale, Play, Pause, Resume, Reset, Seek, Update}
 use Rattle.timeline.specs.declared.timeline.At.{At}
-use Rattle.timeline.specs.declared.timeline.Timeline.{Timeline}
 use Rattle.timeline.specs.Placements.{empty}
-use Rattle.timeline.specs.Calls.{Call, after}
-use Rattle.history.specs.Invariant.{Invariant}
-use Rattle.history.specs.Claim.{Seeks, AllBuild}
+use Rattle.timeline.specs.Calls.{On, step, movedBy, updatedBy}
+use Rattle.history.specs.Claim.{AllBuild}
+use Rattle.history.specs.Covered.{Covered}
+use Rattle.group.specs.declared.group.AnimationGroup.{AnimationGroup}
 use Rattle.group.specs.Items.{itemCalls}
 use Rattle.group.specs.Sequence.{SequenceCall, newSequence, sequenceAfter}
 use Rattle.group.specs.Stagger.{staggered}
-use Rattle.group.specs.Group.{parallelOf, sequenceOf, staggerOf}
+use Rattle.group.specs.Group.{groupOf, groupMoved, groupUpdated, parallelOf, sequenceOf, staggerOf, reverseCall}
 
--- a list of calls makes the timeline from the empty one, so the claim about such lists and the invariant hold of it
-pub record Covered (t : Timeline) : Type 0 where
-  pub calls : List Call
-  pub made : t ≡ after empty calls
-  pub seeks : Seeks calls t
-  pub sound : Invariant t
+-- a list of calls makes the group's timeline
+abbrev pub CoveredGroup : AnimationGroup → Type 0
+CoveredGroup g = Covered (g .inner)
+
+-- what each control leaves of the group g is covered; "a group's `reverse` counts as its calls on the panel"
+pub record Controlled (g : AnimationGroup) : Type 0 where
+  pub play : (room : Room) → CoveredGroup (groupMoved (movedBy (step (g .inner) (On (Play room)))) .group)
+  pub pause : CoveredGroup (groupOf (step (g .inner) (On Pause) .timeline))
+  pub resume : CoveredGroup (groupOf (step (g .inner) (On Resume) .timeline))
+  pub reset : (room : Room) → CoveredGroup (groupMoved (movedBy (step (g .inner) (On (Reset room)))) .group)
+  pub seek : (share : Float) (room : Room) → CoveredGroup (groupMoved (movedBy (step (g .inner) (On (Seek share room)))) .group)
+  pub reverse : (room : Room) → CoveredGroup (groupMoved (movedBy (step (g .inner) (reverseCall (g .inner) room))) .group)
+  pub scale : (x : Float) → CoveredGroup (groupOf (step (g .inner) (On (SetTimeScale x)) .timeline))
+  pub update : (dt : Float) (replies : List ℕ) (list : ℕ) (room : Room)
+      → CoveredGroup (groupUpdated (updatedBy (step (g .inner) (On (Update dt replies list room)))) .group)
 
 -- all of it, which `claimed` carries
 pub record Claim : Type 0 where
@@ -33,6 +43,8 @@ pub record Claim : Type 0 where
   pub parallels : (ds : List Float) → Covered (parallelOf ds .timeline)
   pub group-sequences : (ds : List Float) → Covered (sequenceOf ds .timeline)
   pub group-staggers : (ds : List Float) (p : StaggerPattern) → Covered (staggerOf ds p .timeline)
+  -- each control of a covered group leaves a covered one
+  pub controls : (g : AnimationGroup) → CoveredGroup g → Controlled g
   -- up to 64 items, no call of a builder is refused, wherever the items start
   pub accepts : (at : ℕ → At) (ds : List Float) → length ds ≤ maxEntries → AllBuild empty (itemCalls at 0 ds)
   -- a pattern that refuses one index refuses all

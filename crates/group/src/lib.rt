@@ -6,7 +6,7 @@ pub mod stagger;
 
 ghost use Rattle.group.specs.Claim.{Claim};
 
-// What is claimed of the builders, as a contract: without it the crate is not proved.
+// What is claimed of builders and controls, as a contract: without it the crate is not proved.
 pub fn claimed()
     ensures { λ r. ⌜ Claim ⌝ }
 {}

@@ -1,4 +1,4 @@
--- Why the claim holds. What later crates cite: Covered (what readers and builders hand out) and Kept (the invariant).
+-- Why the claim holds. What later crates cite: Covered (what the claim covers, and what holds of it).
 pub mod Calls
 pub mod Runs
 pub mod Spans
@@ -10,7 +10,9 @@ pub mod Added
 pub mod Kept
 pub mod Built
 pub mod Sending
+pub mod Equal
 pub mod Synced
+pub mod Places
 pub mod Noted
 pub mod Claim
 pub mod Covered

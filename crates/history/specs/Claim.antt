@@ -1,18 +1,22 @@
 -- The claim about whole lists of calls (paper 01, "Agreed between us"): `Claim`, at the end, says it in words. Its proof is `claim` of
--- proofs/Claim.antt.
+-- proofs/Claim.antt. Covered.antt says which timelines come of such lists.
 use mathlib.Core.Path.{_≡_}
+use mathlib.Core.Logic.{_⊎_}
 use mathlib.Core.Bool.{Bool, true, false, not, _&&_, cond}
 use mathlib.Core.List.{List, [], _∷_}
 use lib.Dec.{eqb}
+use lib.ListN.{length}
 use lib.Ieee.{Float, lt, le, eq, isNan}
 use Rattle.float32.specs.Helpers.{zeroF, finiteF}
 use Rattle.refusal.specs.Refusal.{accepted}
 use Rattle.tween.specs.declared.loop_mode.Loop.{Loop}
 use Rattle.tween.specs.declared.loop_mode.Loop.the-variants.{Once, Times, Forever, PingPong, PingPongTimes}
+use Rattle.steps.specs.declared.Row.{Row}
+use Rattle.steps.specs.Rows.{row}
 use Rattle.clock.specs.declared.TimelineState.{TimelineState}
 use Rattle.clock.specs.declared.TimelineState.the-variants.{Idle, Playing, Paused, Completed}
 use Rattle.clock.specs.Clocks.{isPlaying}
-use Rattle.track.specs.Tracks.{trackBase, trackRun}
+use Rattle.track.specs.Tracks.{live, trackBase, trackRun}
 use Rattle.track.specs.Calls.{Room, Looping, SetTimeScale, Play, Pause, Resume, Reset, Seek, SeekAbs, Update, Preview}
 use Rattle.timeline.specs.declared.timeline.Timeline.{Timeline}
 use Rattle.timeline.specs.Placements.{empty}
@@ -70,6 +74,11 @@ unfoldable pub ownBuild : Timeline → List Call → List Call
 ownBuild t [] = []
 ownBuild t (call ∷ calls) = keepCall (builds call && isAccepted t call) call (ownBuild (step t call .timeline) calls)
 
+-- "the list's own such calls make one": each is accepted, and they make the entries and the loop mode of the timeline t that the list made
+pub record OwnBuilt (calls : List Call) (t : Timeline) : Type 0 where
+  pub build : AllBuild empty (ownBuild empty calls)
+  pub same : SameEntries t (after empty (ownBuild empty calls))
+
 -- ---- noted places
 
 -- the mode that plays once, in which updates note no place
@@ -118,6 +127,25 @@ pub record Alike (o o′ : Out) : Type 0 where
   pub place : SamePlace (o .timeline) (o′ .timeline)
   pub rows : o .rows ≡ o′ .rows
 
+-- what the seek to secs, which gave o, makes of the place that n noted; `eq` takes zeros of either sign for one second
+pub record ComesBack (secs : Float) (o : Out) (n : Timeline) : Type 0 where
+  -- a seek to the noted second, given to the bit, leaves it to the bit, and the marks noted
+  pub exact : secs ≡ elapsedOf n → SamePlace (o .timeline) n
+  -- a seek to a second equal to it goes there
+  pub there : eq secs (elapsedOf n) ≡ true → eq (elapsedOf (o .timeline)) (elapsedOf n) ≡ true
+  -- a seek to any second that goes there leaves the marks noted
+  pub marks : eq (elapsedOf (o .timeline)) (elapsedOf n) ≡ true → doneMarks (o .timeline) ≡ doneMarks n
+
+-- one step and no more. Of "a byte (number of resets 0 to 2, plus 4 for an update, plus 8 for a seek), the update amount, and the seek
+-- place; absent amounts are 0.0" a row has one reset, or one seek and its place
+abbrev pub OneStep : Row → Type 0
+OneStep r = (r ≡ row 1 zeroF zeroF) ⊎ (r ≡ row 8 zeroF (r .place))
+
+-- each row is that
+abbrev pub AllOneStep : List Row → Type 0
+AllOneStep [] = Unit
+AllOneStep (r ∷ rs) = OneStep r × AllOneStep rs
+
 -- the state after a seek that does not reach the end
 abbrev pub goingOn : TimelineState → TimelineState
 goingOn Idle = Idle
@@ -126,45 +154,49 @@ goingOn Paused = Paused
 goingOn Completed = Playing
 
 -- the absolute seek that is claimed of, with its slices
-abbrev pub seekTo : Float → Room → Call
-seekTo secs room = On (SeekAbs secs room)
+abbrev pub seekAbs : Float → Room → Call
+seekAbs secs room = On (SeekAbs secs room)
 
--- what the seek to secs gives, o, on the timeline t that the list of calls made
-pub record Sought (calls : List Call) (t : Timeline) (secs : Float) (room : Room) (o : Out) : Type 0 where
-  -- 1. as every newly built timeline; and the list's own building calls make one
+-- what the seek to secs gives on the timeline t: o
+pub record Sought (t : Timeline) (secs : Float) (room : Room) (o : Out) : Type 0 where
+  -- 1. as every newly built timeline
   pub as-new : (u : Timeline) → NewlyBuilt u → SameEntries t u
-      → (isAccepted u (seekTo secs room) ≡ true) × ((room′ : Room) → isAccepted u (seekTo secs room′) ≡ true → Alike o (step u (seekTo secs room′)))
-  pub own-builds : AllBuild empty (ownBuild empty calls)
-  pub own-same : SameEntries t (after empty (ownBuild empty calls))
-  -- 2. no NaN, at least 0, at most the run
+      → (isAccepted u (seekAbs secs room) ≡ true) × ((room′ : Room) → isAccepted u (seekAbs secs room′) ≡ true → Alike o (step u (seekAbs secs room′)))
+  -- 2. a row for each entry, and one step in each row
+  pub each : length (o .rows) ≡ length (live (t .track))
+  pub steps : AllOneStep (o .rows)
+  -- 3. no NaN, at least 0, at most the run
   pub number : isNan (elapsedOf (o .timeline)) ≡ false
   pub least : le zeroF (elapsedOf (o .timeline)) ≡ true
   pub most : le (elapsedOf (o .timeline)) (trackRun (t .track)) ≡ true
-  -- 3. Completed exactly at the end of a finite run
+  -- 4. Completed exactly at the end of a finite run
   pub state : stateOf (o .timeline) ≡ cond (finiteF (trackRun (t .track)) && eq (trackRun (t .track)) (elapsedOf (o .timeline))) Completed (goingOn (stateOf t))
-  -- 4. noted places come back
-  pub back : (n : Timeline) → Noted n → SameEntries t n → secs ≡ elapsedOf n → SamePlace (o .timeline) n
+  -- 5. noted places come back
+  pub back : (n : Timeline) → Noted n → SameEntries t n → ComesBack secs o n
 
--- what is claimed of the timeline t that the list made: every accepted seek gives that
-abbrev pub Seeks : List Call → Timeline → Type 0
-Seeks calls t = (secs : Float) (room : Room) → isAccepted t (seekTo secs room) ≡ true → Sought calls t secs room (step t (seekTo secs room))
+-- what is claimed of seeks on the timeline t: every accepted one gives that
+abbrev pub Seeks : Timeline → Type 0
+Seeks t = (secs : Float) (room : Room) → isAccepted t (seekAbs secs room) ≡ true → Sought t secs room (step t (seekAbs secs room))
 
 -- Take any list of calls, with any arguments and any lent slices, refused calls included, each on the timeline that the one before left,
--- from the empty timeline on. After it, one accepted absolute seek to any second
+-- from the empty timeline on. The list's own calls that add an entry or set the loop mode, as far as accepted, make a newly built timeline of
+-- the same entries and loop mode. And after the list, one accepted absolute seek to any second
 -- 1. gives the elapsed time, the done marks and the whole row of each entry that every newly built timeline of the same entries and loop
 --    mode gives, sought to the same second; that seek is accepted with the same slices, and gives the same with any others that it is
---    accepted with. And there is such a timeline: the list's own calls that add an entry or set the loop mode, as far as accepted, make one;
--- 2. leaves an elapsed time that is no NaN, at least 0 and at most the run;
--- 3. leaves the state Completed exactly where the run is finite and the elapsed time equals it; elsewhere it leaves the state of before,
+--    accepted with;
+-- 2. sends each entry one row, and in it one step: a reset, or a seek, and nothing else;
+-- 3. leaves an elapsed time that is no NaN, at least 0 and at most the run;
+-- 4. leaves the state Completed exactly where the run is finite and the elapsed time equals it; elsewhere it leaves the state of before,
 --    but Playing where that was Completed;
--- 4. brings noted places back. A place is noted, in any such list, right after an accepted seek of either kind, or right after an accepted
---    update while Playing in a mode other than Once, where the base is above 0 and the elapsed time is no NaN. A seek to it, on any timeline
---    of the same entries and loop mode, leaves exactly the elapsed time and the marks that were noted.
+-- 5. brings noted places back. A place is noted, in any such list, right after an accepted seek of either kind, or right after an accepted
+--    update while Playing in a mode other than Once, where the base is above 0 and the elapsed time is no NaN. On any timeline of the same
+--    entries and loop mode, a seek that goes to the elapsed time noted leaves the marks noted, whatever second it was asked for, zeros of
+--    either sign being the same second. A seek to that second goes there, and one that is given it to the bit leaves it to the bit.
 abbrev pub Claim : Type 0
-Claim = (calls : List Call) → Seeks calls (after empty calls)
+Claim = (calls : List Call) → OwnBuilt calls (after empty calls) × Seeks (after empty calls)
 
 -- The steward's question. Two timelines have any histories, and the same entries and loop mode. One notes its place, the other takes a
--- seek to it. Then both show the same elapsed time and the same marks.
+-- seek. Where that goes to the place, both show the same elapsed time and the same marks; and a seek to it goes there.
 abbrev pub PlacesAgree : Type 0
-PlacesAgree = (calls : List Call) (n : Timeline) (room : Room) → Noted n → SameEntries (after empty calls) n
-    → isAccepted (after empty calls) (seekTo (elapsedOf n) room) ≡ true → SamePlace (step (after empty calls) (seekTo (elapsedOf n) room) .timeline) n
+PlacesAgree = (calls : List Call) (n : Timeline) (secs : Float) (room : Room) → Noted n → SameEntries (after empty calls) n
+    → isAccepted (after empty calls) (seekAbs secs room) ≡ true → ComesBack secs (step (after empty calls) (seekAbs secs room)) n

@@ -2,3 +2,4 @@ pub mod Entries
 pub mod Invariant
 pub mod Claim
 pub mod Lent
+pub mod Covered

@@ -2,6 +2,7 @@
 ghost use Rattle.history.specs.Invariant.{Kept};
 ghost use Rattle.history.specs.Claim.{Claim, PlacesAgree};
 ghost use Rattle.history.specs.Lent.{LentCalls};
+ghost use Rattle.history.specs.Covered.{Coverage};
 
 // Every call keeps the invariant.
 pub fn invariant_kept()
@@ -21,4 +22,9 @@ pub fn places_agree()
 // The calls on a lent clock are the timeline's own.
 pub fn lent_calls()
     ensures { λ r. ⌜ LentCalls ⌝ }
+{}
+
+// What lists of calls make is covered, and so is what calls on it, on its track or on its lent clock leave.
+pub fn calls_covered()
+    ensures { λ r. ⌜ Coverage ⌝ }
 {}

@@ -4,18 +4,16 @@ use mathlib.Core.Path.{_≡_, refl, _∙_}
 use mathlib.Core.Bool.{Bool, true, false, cond}
 use mathlib.Core.List.{List, []}
 use lib.Dec.{eqb}
-use Rattle.timeline.specs.declared.timeline.Timeline.{Timeline}
 use Rattle.timeline.specs.Placements.{empty}
 use Rattle.timeline.specs.Calls.{Call, after}
-use Rattle.history.proofs.Covered as history
-use Rattle.sheet_format.specs.declared.description.Description.{Description}
+use Rattle.history.proofs.Covered.{coverage}
 use Rattle.sheet_format.specs.Check.{checkNumber}
 use Rattle.sheet_format.specs.Descriptions.{descriptionIn}
 use Rattle.sheet_format.proofs.Accepted.{accepted-sheet}
 use Rattle.sheet_format.proofs.Sheets.{write-whole}
 use Rattle.sheet.specs.declared.Reading.{Reading}
-use Rattle.sheet.specs.Build.{callsOf, built, readCalls, readingOf}
-use Rattle.sheet.specs.Claim.{Rewrites, Covered, Claim}
+use Rattle.sheet.specs.Build.{callsOf, readCalls, readingOf}
+use Rattle.sheet.specs.Claim.{Rewrites, Claim}
 use Rattle.sheet.proofs.Rewrite.{sheet-same, described-good}
 use Rattle.sheet.proofs.Taken.{taken}
 
@@ -36,14 +34,12 @@ read-made : (s : List ℕ) → readingOf s .timeline ≡ after empty (readCalls 
 unfolding readingOf readCalls
 read-made s = chosen (eqb (checkNumber s) 0) _ _ _ refl refl
 
-covered : (calls : List Call) (t : Timeline) → t ≡ after empty calls → Covered calls t
-covered calls t e = record { made = e; seeks = history.covered t calls e; sound = history.covered-sound t calls e }
-
 pub claim : Claim
 claim =
     record {
       rewrites = rewrites;
-      reads = λ s. covered (readCalls s) (readingOf s .timeline) (read-made s);
-      builds = λ d. covered (callsOf d) (built d) refl;
+      made = read-made;
+      reads = λ s. record { calls = readCalls s; made = read-made s };
+      builds = λ d. coverage .lists (callsOf d);
       takes = taken;
     }

@@ -8,13 +8,12 @@ use Rattle.refusal.specs.Refusal.{accepted}
 use Rattle.timeline.specs.declared.timeline.Timeline.{Timeline}
 use Rattle.timeline.specs.Placements.{empty}
 use Rattle.timeline.specs.Calls.{Call, step, after}
-use Rattle.history.specs.Invariant.{Invariant}
-use Rattle.history.specs.Claim.{Seeks}
+use Rattle.history.specs.Covered.{Covered}
 use Rattle.sheet_format.specs.declared.description.Description.{Description}
 use Rattle.sheet_format.specs.Check.{checkNumber}
 use Rattle.sheet_format.specs.Descriptions.{descriptionIn}
 use Rattle.sheet_format.specs.Write.{writeNumber, writtenBytes}
-use Rattle.sheet.specs.Build.{callsOf, built, readCalls, readingOf}
+use Rattle.sheet.specs.Build.{built, readCalls, readingOf}
 
 -- "Rewriting an accepted sheet returns its bytes": in any room that is long enough
 abbrev pub Rewrites : Type 0
@@ -27,17 +26,13 @@ abbrev pub AllAccepted : Timeline → List Call → Type 0
 AllAccepted t [] = Unit
 AllAccepted t (call ∷ calls) = (step t call .refusal ≡ accepted) × AllAccepted (step t call .timeline) calls
 
--- "Readers and builders hand out what such lists give": so the claim of crate history and its invariant hold of the timeline t
-pub record Covered (calls : List Call) (t : Timeline) : Type 0 where
-  pub made : t ≡ after empty calls
-  pub seeks : Seeks calls t
-  pub sound : Invariant t
-
 -- all of it, which `claimed` carries
 pub record Claim : Type 0 where
   pub rewrites : Rewrites
-  -- what is read from any bytes, and what any description builds
-  pub reads : (s : List ℕ) → Covered (readCalls s) (readingOf s .timeline)
-  pub builds : (d : Description) → Covered (callsOf d) (built d)
+  -- what is read from any bytes is what its calls make
+  pub made : (s : List ℕ) → readingOf s .timeline ≡ after empty (readCalls s)
+  -- "Readers and builders hand out what such lists give": so the claim of crate history covers it, and what any description builds
+  pub reads : (s : List ℕ) → Covered (readingOf s .timeline)
+  pub builds : (d : Description) → Covered (built d)
   -- every entry of an accepted sheet is in its timeline
   pub takes : (s : List ℕ) → AllAccepted empty (readCalls s)
