@@ -1,6 +1,6 @@
 -- A NaN has one value, and in each format one pattern stands for it. Assumes nothing.
 use mathlib.Core.Path.{_≡_, refl, sym, ap, subst, _∙_}
-use mathlib.Core.Bool.{Bool, true, false, not}
+use mathlib.Core.Bool.{Bool, true, not}
 use Prim.Native.Nat.{ℕ, _+_, _*_, _/_, _%_, _<_, _≤_}
 use lib.Dec.{T}
 use lib.Ieee.{Float, nan, inf, fin, Format, hid, ones, top, isNan, ofBits, toBits, nanBits}
