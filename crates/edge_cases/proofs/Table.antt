@@ -3,7 +3,7 @@ use lib.Dec.{T}
 use lib.Ieee.{add, sub, mul, div, rem, neg, ofInt, ofBits, toBits, toUnsigned, isNan, lt, le, eq}
 use Rattle.float32.specs.Helpers.{maxF, minF, clampF}
 use Rattle.tween.specs.StaggerPattern.{distanceDelay, gridDelay, xor, hash, randomDelay, edgesIn}
-use Rattle.tween.specs.Cases.{gives, caseHolds}
+use Rattle.tween.specs.Cases.{caseHolds}
 use Rattle.tween.specs.Cases as tween
 use Rattle.steps.specs.Times.{baseOf, timesRun, runOf, timesLocal, pingPong, localTime}
 use Rattle.steps.specs.Rows.{untouched, cleared, synced, tickRow, tickedOver, tickedIn, ticked, resetFirst}
@@ -15,9 +15,9 @@ use Rattle.track.specs.Updates.{aboveOne, ticks, newlyDone, tickedTo, syncedTo,
 use Rattle.clock.specs.Clocks.{nextElapsed, advancedClock}
 use Rattle.track.specs.Calls.{sent, playRule, soughtTo, advancedTo, rested, updated, updatedWith, trackStep}
 use Rattle.timeline.specs.Placements.{empty, namedStart, resolveStart}
-use Rattle.timeline.specs.Calls.{addedAt, step, after}
-use Rattle.edge_cases.specs.Edges.{answer, sameNumbers, edgeHolds, allHold, panels, edges}
+use Rattle.timeline.specs.Calls.{addedAt, step}
+use Rattle.edge_cases.specs.Edges.{answer, sameNumbers, gives, edgeHolds, allHold, panels, edges}
 
 pub holds : T (allHold edges)
-unfolding edges panels allHold edgeHolds sameNumbers answer step after addedAt empty namedStart resolveStart trackStep updatedWith updated rested advancedTo soughtTo playRule sent nextElapsed aboveOne ticks newlyDone tickedTo syncedTo playing advancedClock emptyTrack progressIn shareIn clocks.withState clocks.scaled clocks.cleared clocks.started clocks.playState clocks.played clocks.paused clocks.resumed clocks.seekTo clocks.seekState clocks.sought sameText firstFrom firstLike cycleStart completes inCycle breaksAt stopsAt cycles completionsIn completionsBetween untouched cleared synced tickRow tickedOver tickedIn ticked resetFirst baseOf timesRun runOf timesLocal pingPong localTime gives caseHolds tween.table distanceDelay gridDelay xor hash randomDelay edgesIn maxF minF clampF add sub mul div rem neg ofInt ofBits toBits toUnsigned isNan lt le eq
+unfolding edges panels allHold edgeHolds gives sameNumbers answer step addedAt empty namedStart resolveStart trackStep updatedWith updated rested advancedTo soughtTo playRule sent nextElapsed aboveOne ticks newlyDone tickedTo syncedTo playing advancedClock emptyTrack progressIn shareIn clocks.withState clocks.scaled clocks.cleared clocks.started clocks.playState clocks.played clocks.paused clocks.resumed clocks.seekTo clocks.seekState clocks.sought sameText firstFrom firstLike cycleStart completes inCycle breaksAt stopsAt cycles completionsIn completionsBetween untouched cleared synced tickRow tickedOver tickedIn ticked resetFirst baseOf timesRun runOf timesLocal pingPong localTime tween.gives caseHolds tween.table distanceDelay gridDelay xor hash randomDelay edgesIn maxF minF clampF add sub mul div rem neg ofInt ofBits toBits toUnsigned isNan lt le eq
 holds = tt

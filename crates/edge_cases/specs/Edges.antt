@@ -1,10 +1,11 @@
 -- The panels that paper 01 marks * under "Panels at the edges", as one table over the definitions, in the order of the paper.
 use Prim.Native.Nat.{ℕ}
-use mathlib.Core.Bool.{Bool, true, false, _&&_}
+use mathlib.Core.Bool.{Bool, true, false, _&&_, cond}
 use mathlib.Core.List.{List, [], _∷_, _++_, map}
 use lib.Dec.{eqb}
 use lib.Ieee.{Float, nan, binary32, neg, ofBits}
 use Rattle.float32.specs.Helpers.{zeroF, oneF, infinityF, toBits}
+use Rattle.refusal.specs.Refusal.{accepted}
 use Rattle.tween.specs.declared.loop_mode.Loop.the-variants.{Times, Forever, PingPongTimes}
 use Rattle.tween.specs.Cases.{Case, caseHolds}
 use Rattle.tween.specs.Cases as tween
@@ -16,19 +17,18 @@ use Rattle.clock.specs.declared.TimelineState.the-variants.{Idle, Playing, Paus
 use Rattle.track.specs.Tracks.{live, trackBase, trackRun, progressOf}
 use Rattle.track.specs.Calls.{Room, TrackCall, Looping, SetTimeScale, Play, SeekAbs, Update}
 use Rattle.timeline.specs.declared.timeline.At.{At}
-use Rattle.timeline.specs.declared.timeline.At.the-variants.{Start, End, Offset}
+use Rattle.timeline.specs.declared.timeline.At.the-variants.{Start, Label as Labeled, Offset}
 use Rattle.timeline.specs.Placements.{empty}
-use Rattle.timeline.specs.Calls.{Call, Add, AddAtLabel, On, Out, step, after}
+use Rattle.timeline.specs.Calls.{Call, Add, AddAtLabel, On, Out, silent, step}
 use Rattle.group.specs.Group.{groupOf, groupDuration}
 
--- what is asked of the last call's outcome; floats are asked for by their bits
+-- what is asked of the last call's outcome; floats are asked for by their bits, tests by 1 and 0
 pub data Question : Type 0 where
-  state elapsed base run local progress starts kinds listed : Question
+  state elapsed base run local progress starts marks kinds listed fired groupLength : Question
 
--- calls on the empty timeline, a last call, what is asked of it, and the answer; or the duration of the group of what calls make; or a delay of a stagger pattern
+-- calls on the empty timeline, what is asked after the last of them, and the answer; or a delay of a stagger pattern
 pub data Edge : Type 0 where
-  panel : List Call → Call → Question → List ℕ → Edge
-  group : List Call → ℕ → Edge
+  panel : List Call → Question → List ℕ → Edge
   delay : Case → Edge
 
 -- the order of `TimelineState`
@@ -37,6 +37,10 @@ stateNumber Idle = 0
 stateNumber Playing = 1
 stateNumber Paused = 2
 stateNumber Completed = 3
+
+-- a test by its number
+abbrev pub testNumber : Bool → ℕ
+testNumber b = cond b 1 0
 
 -- what the outcome of the last call answers to the question
 unfoldable pub answer : Question → Out → List ℕ
@@ -47,8 +51,11 @@ answer run o = toBits (trackRun (o .timeline .track)) ∷ []
 answer local o = toBits (localTime (o .timeline .track .looping) (trackBase (o .timeline .track)) (o .timeline .track .clock .elapsed)) ∷ []
 answer progress o = toBits (progressOf (o .timeline .track)) ∷ []
 answer starts o = map (λ (e : Entry). toBits (e .start)) (live (o .timeline .track))
+answer marks o = map (λ (e : Entry). testNumber (e .done)) (live (o .timeline .track))
 answer kinds o = map (λ (r : Row). r .kind) (o .rows)
 answer listed o = o .listed
+answer fired o = testNumber (o .completed) ∷ []
+answer groupLength o = toBits (groupDuration (groupOf (o .timeline))) ∷ []
 
 -- the two lists have the same numbers
 unfoldable pub sameNumbers : List ℕ → List ℕ → Bool
@@ -57,10 +64,14 @@ sameNumbers [] (y ∷ ys) = false
 sameNumbers (x ∷ xs) [] = false
 sameNumbers (x ∷ xs) (y ∷ ys) = eqb x y && sameNumbers xs ys
 
+-- after the outcome o come these calls, each on the timeline that the one before left: every outcome is accepted, and the last one gives the answer
+unfoldable pub gives : Out → List Call → Question → List ℕ → Bool
+gives o [] q l = eqb (o .refusal) accepted && sameNumbers (answer q o) l
+gives o (c ∷ cs) q l = eqb (o .refusal) accepted && gives (step (o .timeline) c) cs q l
+
 -- the definitions give the answer
 unfoldable pub edgeHolds : Edge → Bool
-edgeHolds (panel cs c q l) = sameNumbers (answer q (step (after empty cs) c)) l
-edgeHolds (group cs bits) = eqb (toBits (groupDuration (groupOf (after empty cs)))) bits
+edgeHolds (panel cs q l) = gives (silent accepted empty) cs q l
 edgeHolds (delay k) = caseHolds k
 
 -- of every edge
@@ -110,40 +121,57 @@ two = Add a Start twoF
 abbrev pair : List Call → List Call
 pair cs = Add a Start zeroF ∷ Add b Start twoF ∷ cs
 
--- the panels that play, each with its sentence; a call, what is asked, and the answer
+-- "Base 2, `PingPongTimes(2)`", with an entry of 1 s that a seek to 1.5 leaves done
+abbrev there : List Call → List Call
+there cs = two ∷ Add b Start oneF ∷ On (Looping (PingPongTimes 2)) ∷ On (SeekAbs oneHalfF rooms) ∷ cs
+
+-- "Scale 0, base 2, playing, update with +infinity."
+abbrev still : List Call → List Call
+still cs = two ∷ On (SetTimeScale zeroF) ∷ cs
+
+-- the panels that play, each with its sentence: the calls, what is asked after the last, and the answer
 unfoldable pub panels : List Edge
 panels =
     -- "Empty: `play` gives Completed; progress 1.0."
-    panel [] play state (3 ∷ [])
-    ∷ panel [] play progress (0x3f800000 ∷ [])
+    panel [] progress (0x3f800000 ∷ [])
+    ∷ panel (play ∷ []) state (3 ∷ [])
+    ∷ panel (play ∷ []) progress (0x3f800000 ∷ [])
     -- "Base 2, `Times(0)`: run 2."
-    ∷ panel (two ∷ []) (On (Looping (Times 0))) run (0x40000000 ∷ [])
+    ∷ panel (two ∷ On (Looping (Times 0)) ∷ []) base (0x40000000 ∷ [])
+    ∷ panel (two ∷ On (Looping (Times 0)) ∷ []) run (0x40000000 ∷ [])
     -- "Base 2, `PingPongTimes(2)`, `seek_abs(4)`: Completed, every entry reset."
-    ∷ panel (two ∷ Add b Start oneF ∷ On (Looping (PingPongTimes 2)) ∷ []) (On (SeekAbs fourF rooms)) state (3 ∷ [])
-    ∷ panel (two ∷ Add b Start oneF ∷ On (Looping (PingPongTimes 2)) ∷ []) (On (SeekAbs fourF rooms)) kinds (1 ∷ 1 ∷ [])
+    ∷ panel (there []) marks (0 ∷ 1 ∷ [])
+    ∷ panel (there (On (SeekAbs fourF rooms) ∷ [])) state (3 ∷ [])
+    ∷ panel (there (On (SeekAbs fourF rooms) ∷ [])) kinds (1 ∷ 1 ∷ [])
+    ∷ panel (there (On (SeekAbs fourF rooms) ∷ [])) marks (0 ∷ 0 ∷ [])
     -- "`PingPongTimes(1)`, `seek_abs(2)`: local time 2."
-    ∷ panel (two ∷ On (Looping (PingPongTimes 1)) ∷ []) (On (SeekAbs twoF rooms)) local (0x40000000 ∷ [])
+    ∷ panel (two ∷ On (Looping (PingPongTimes 1)) ∷ On (SeekAbs twoF rooms) ∷ []) local (0x40000000 ∷ [])
     -- "`seek_abs(NaN)`: elapsed 0."
-    ∷ panel (two ∷ []) (On (SeekAbs nan rooms)) elapsed (0 ∷ [])
-    -- "Base 1.5, unknown label: start 1.5."
-    ∷ panel (Add a Start oneHalfF ∷ []) (AddAtLabel b x oneF) starts (0 ∷ 0x3fc00000 ∷ [])
+    ∷ panel (two ∷ On (SeekAbs oneF rooms) ∷ []) elapsed (0x3f800000 ∷ [])
+    ∷ panel (two ∷ On (SeekAbs oneF rooms) ∷ On (SeekAbs nan rooms) ∷ []) elapsed (0 ∷ [])
+    -- "Base 1.5, unknown label: start 1.5.", by its bytes and by the number of no entry
+    ∷ panel (Add a Start oneHalfF ∷ AddAtLabel b x oneF ∷ []) starts (0 ∷ 0x3fc00000 ∷ [])
+    ∷ panel (Add a Start oneHalfF ∷ Add b (Labeled 1) oneF ∷ []) starts (0 ∷ 0x3fc00000 ∷ [])
     -- "Base 2, `Offset(-5)`: 0."
-    ∷ panel (two ∷ []) (Add b (Offset minusFiveF) oneF) starts (0 ∷ 0 ∷ [])
+    ∷ panel (two ∷ Add b (Offset minusFiveF) oneF ∷ []) starts (0 ∷ 0 ∷ [])
     -- "Once: play, update 0 completes entry 0."
-    ∷ panel (pair (play ∷ [])) (by zeroF) listed (0 ∷ [])
+    ∷ panel (pair (play ∷ by zeroF ∷ [])) listed (0 ∷ [])
+    ∷ panel (pair (play ∷ by zeroF ∷ [])) fired (0 ∷ [])
     -- "`Times(2)`: play, update 1 completes none; update 1.5 then gives 1, 0."
-    ∷ panel (pair (On (Looping (Times 2)) ∷ play ∷ [])) (by oneF) listed []
-    ∷ panel (pair (On (Looping (Times 2)) ∷ play ∷ by oneF ∷ [])) (by oneHalfF) listed (1 ∷ 0 ∷ [])
-    -- "Scale 0, base 2, playing, update with +infinity. Once: elapsed 2, still Playing; the next update by a finite step completes."
-    ∷ panel (two ∷ On (SetTimeScale zeroF) ∷ play ∷ []) (by infinityF) elapsed (0x40000000 ∷ [])
-    ∷ panel (two ∷ On (SetTimeScale zeroF) ∷ play ∷ []) (by infinityF) state (1 ∷ [])
-    ∷ panel (two ∷ On (SetTimeScale zeroF) ∷ play ∷ by infinityF ∷ []) (by oneF) state (3 ∷ [])
+    ∷ panel (pair (On (Looping (Times 2)) ∷ play ∷ by oneF ∷ [])) listed []
+    ∷ panel (pair (On (Looping (Times 2)) ∷ play ∷ by oneF ∷ by oneHalfF ∷ [])) listed (1 ∷ 0 ∷ [])
+    -- "Once: elapsed 2, still Playing; the next update by a finite step completes."
+    ∷ panel (still (play ∷ by infinityF ∷ [])) elapsed (0x40000000 ∷ [])
+    ∷ panel (still (play ∷ by infinityF ∷ [])) state (1 ∷ [])
+    ∷ panel (still (play ∷ by infinityF ∷ [])) fired (0 ∷ [])
+    ∷ panel (still (play ∷ by infinityF ∷ by oneF ∷ [])) state (3 ∷ [])
+    ∷ panel (still (play ∷ by infinityF ∷ by oneF ∷ [])) fired (1 ∷ [])
     -- "Forever: elapsed NaN, nothing listed."
-    ∷ panel (two ∷ On (SetTimeScale zeroF) ∷ On (Looping Forever) ∷ play ∷ []) (by infinityF) elapsed (0x7fc00000 ∷ [])
-    ∷ panel (two ∷ On (SetTimeScale zeroF) ∷ On (Looping Forever) ∷ play ∷ []) (by infinityF) listed []
+    ∷ panel (still (On (Looping Forever) ∷ play ∷ by infinityF ∷ [])) elapsed (0x7fc00000 ∷ [])
+    ∷ panel (still (On (Looping Forever) ∷ play ∷ by infinityF ∷ [])) listed []
     -- "Base 2, `Times(3)`: group duration 2, timeline run 6."
-    ∷ group (two ∷ On (Looping (Times 3)) ∷ []) 0x40000000
-    ∷ panel (two ∷ []) (On (Looping (Times 3))) run (0x40c00000 ∷ [])
+    ∷ panel (two ∷ On (Looping (Times 3)) ∷ []) groupLength (0x40000000 ∷ [])
+    ∷ panel (two ∷ On (Looping (Times 3)) ∷ []) run (0x40c00000 ∷ [])
     ∷ []
 
 -- the panels, and the delays of crate tween

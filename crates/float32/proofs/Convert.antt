@@ -75,17 +75,21 @@ module _ (f : Format) (n z : ℕ) (lo : 2 ^ z ≤ n) (hi : n < 2 ^ suc z) where
       ap (λ (k : ℕ). closest (n * 2 ^ low f) (1 * 2 ^ k)) int-drop
       ∙ rw (one-mul (2 ^ j)) (closest-scale n (low f) j (prec f) (suc z) (omega (arith, int-all)))
 
-  int-bits : suc z ≤ emax f → round f false n 1 ≡ ofBits f ((suc z + low f - prec f) * hid f + closest (n * 2 ^ prec f) (2 ^ suc z))
-  int-bits small =
-      let q = closest (n * 2 ^ prec f) (2 ^ suc z) in
+  int-grid : grid f n 1 ≡ closest (n * 2 ^ prec f) (2 ^ suc z) * 2 ^ (suc z + low f - prec f)
+  int-grid = ap₂ (λ (a b : ℕ). a * 2 ^ b) int-kept int-drop
+
+  int-value : suc z ≤ emax f → HasValue (round f false n 1) false (grid f n 1) (2 ^ low f)
+  int-value small =
       let j = suc z + low f - prec f in
-      let g : grid f n 1 ≡ q * 2 ^ j = ap₂ (λ (a b : ℕ). a * 2 ^ b) int-kept int-drop in
-      let top : q ≤ 2 ^ prec f = closest-le n (suc z) (prec f) hi in
-      let under : q * 2 ^ j < overflow f = lt-of-le-of-lt (mul-le-mul-right (2 ^ j) top) (room j int-all) in
-      units-bits f (round f false n 1) q j (round-fits f false n 1) (closest-ge n z (prec f) (prec f - 1) (lead f) lo) top (rw g at (round-val f n 1 (rw g under)))
+      round-val f n 1 (rw int-grid (lt-of-le-of-lt (mul-le-mul-right (2 ^ j) (closest-le n (suc z) (prec f) hi)) (room j int-all)))
     where
       room : (j : ℕ) → j + prec f ≡ suc z + low f → 2 ^ prec f * 2 ^ j < overflow f
       room j e = lt-of-le-of-lt (le-of-eq (sym (pow-add 2 (prec f) j))) (pow-lt (omega arith))
+
+  int-bits : suc z ≤ emax f → round f false n 1 ≡ ofBits f ((suc z + low f - prec f) * hid f + closest (n * 2 ^ prec f) (2 ^ suc z))
+  int-bits small =
+      units-bits f (round f false n 1) (closest (n * 2 ^ prec f) (2 ^ suc z)) (suc z + low f - prec f) (round-fits f false n 1)
+      (closest-ge n z (prec f) (prec f - 1) (lead f) lo) (closest-le n (suc z) (prec f) hi) (rw int-grid at (int-value small))
 
 -- an integer above 0, rounded: prec of its digits, below a field that says how many it has
 pub ofInt-bits : (f : Format) (n : ℕ) → 0 < n → size n ≤ emax f → ofInt f (pos n) ≡ ofBits f ((low f - prec f + size n) * hid f + closest (n * 2 ^ prec f) (2 ^ size n))
@@ -97,6 +101,11 @@ ofInt-bits f n h small =
     field : (f : Format) (z : ℕ) → low f - prec f + z ≡ z + low f - prec f
     field binary32 z = omega arith
     field binary64 z = omega arith
+
+-- and its value is what is kept of it, in units of the smallest value
+pub ofInt-value : (f : Format) (n : ℕ) → 0 < n → size n ≤ emax f → HasValue (ofInt f (pos n)) false (grid f n 1) (2 ^ low f)
+unfolding ofInt
+ofInt-value f n h small = let z = leading n h in int-value f n (z .0) (z .2) (z .3) (rw (z .1) at small)
 
 -- 0 has the pattern 0
 pub ofInt-zero : (f : Format) → ofInt f (pos 0) ≡ ofBits f 0

@@ -1,8 +1,8 @@
--- Numbers alone: how many binary digits a number has, and a fraction rounded to the nearest whole number (`closest` of the kit), a tie to the even one. Assumes nothing.
+-- Numbers alone: how many binary digits a number has, a number shifted, and a fraction rounded to the nearest whole number (`closest` of the kit), a tie to the even one. Assumes nothing.
 use mathlib.Core.Path.{_≡_, refl, sym, ap, subst, _∙_}
 use mathlib.Core.Bool.{true, false, true≢false, false≢true}
 use Prim.Native.Nat.{ℕ, zero, suc, _+_, _-_, _*_, _/_, _%_, _^_, _<_, _≤_, compare, Ordering, Ordering·lt, Ordering·eq, Ordering·gt}
-use native.Mathlib.Nat.{le-antisymm, le-trans, le-of-eq, le-of-lt, lt-of-lt-of-le, lt-of-not-le, not-le-of-lt, zero-lt-suc, suc-add, add-sub-cancel-left, mul-one, one-mul, mul-comm, mul-assoc, mul-le-mul-left, mul-le-mul-right, div-one, mod-one, div-lt-iff-lt-mul}
+use native.Mathlib.Nat.{le-antisymm, le-trans, le-of-eq, le-of-lt, lt-of-lt-of-le, lt-of-le-of-lt, lt-of-not-le, not-le-of-lt, zero-lt-suc, suc-add, add-sub-cancel-left, mul-one, one-mul, mul-comm, mul-assoc, mul-le-mul-left, mul-le-mul-right, div-one, mod-one, div-eq-of-lt, div-lt-iff-lt-mul}
 use native.Mathlib.Omega.{arith}
 use native.Mathlib.Numerals.{add-one}
 use borrow.Author.Tests.{le-leb, lt-leb, eq-eqb, ne-eqb}
@@ -12,7 +12,7 @@ use lib.Count.{leadingZeros, leading-of-zero, leading-top}
 use lib.Pow.{pow-add, pow-pos, pow-mono, shl-lt, shl-exact}
 use lib.Ieee.{size, nearest}
 use lib.Ieee.Digits.{size-lt, size-le, size-reaches}
-use lib.Ieee.Nearest.{closest, closest-mono, closest-same}
+use lib.Ieee.Nearest.{closest, closest-mono, closest-same, div-same}
 
 -- ---- the count of digits
 no-more : (n z : ℕ) → 2 ^ z ≤ n → z < size n
@@ -49,6 +49,10 @@ size-shift n z k lo hi =
 pub powers : (a b c d : ℕ) → a + b ≡ c + d → 2 ^ a * 2 ^ b ≡ 2 ^ c * 2 ^ d
 powers a b c d e = sym (pow-add 2 a b) ∙ ap (λ (x : ℕ). 2 ^ x) e ∙ pow-add 2 c d
 
+-- n * 2 ^ p / 2 ^ z and n * 2 ^ q / 2 ^ y are one fraction: only the difference of the two exponents matters
+cross-scale : (n p z q y : ℕ) → p + y ≡ q + z → n * 2 ^ p * 2 ^ y ≡ n * 2 ^ q * 2 ^ z
+cross-scale n p z q y e = mul-assoc n (2 ^ p) (2 ^ y) ∙ ap (λ (x : ℕ). n * x) (powers p y q z e) ∙ sym (mul-assoc n (2 ^ q) (2 ^ z))
+
 -- 1 << k, at every width w
 pub one-shifted : (w k : ℕ) → k < w → 1 * 2 ^ k % 2 ^ w ≡ 2 ^ k
 one-shifted w k h = shl-exact {a = 1} 1 k w (lit≤ tt) (omega arith) ∙ one-mul (2 ^ k)
@@ -56,6 +60,30 @@ one-shifted w k h = shl-exact {a = 1} 1 k w (lit≤ tt) (omega arith) ∙ one-mu
 -- a quotient by 2 or more is below half of the range
 pub quotient-half : (n u k : ℕ) → 1 < u → n < k * 2 → n / u < k
 quotient-half n u k U h = div-lt-iff-lt-mul (le-of-lt U) .1 (lt-of-lt-of-le h (mul-le-mul-left k U))
+
+-- ---- n shifted by p - z places: n * 2 ^ p / 2 ^ z
+-- only the difference of the two exponents matters
+pub shift-scale : (n p z q y : ℕ) → p + y ≡ q + z → n * 2 ^ p / 2 ^ z ≡ n * 2 ^ q / 2 ^ y
+shift-scale n p z q y e = div-same (n * 2 ^ p) (2 ^ z) (n * 2 ^ q) (2 ^ y) (pow-pos z) (pow-pos y) (cross-scale n p z q y e)
+
+-- to the left
+pub shift-left : (n p z : ℕ) → z ≤ p → n * 2 ^ p / 2 ^ z ≡ n * 2 ^ (p - z)
+shift-left n p z h = shift-scale n p z (p - z) 0 (omega arith) ∙ div-one (n * 2 ^ (p - z))
+
+-- to the right
+pub shift-right : (n p z : ℕ) → p ≤ z → n * 2 ^ p / 2 ^ z ≡ n / 2 ^ (z - p)
+shift-right n p z h = shift-scale n p z 0 (z - p) (omega arith) ∙ ap (λ (x : ℕ). x / 2 ^ (z - p)) (mul-one n)
+
+-- to the right by all of its j digits, or more
+pub shift-out : (n j p z : ℕ) → n < 2 ^ j → j + p ≤ z → n * 2 ^ p / 2 ^ z ≡ 0
+shift-out n j p z h k = div-eq-of-lt (lt-of-lt-of-le (shl-lt j p h) (pow-mono k))
+
+-- what comes to less than 2 ^ w was not shifted far to the left
+pub shift-reach : (n j p z w : ℕ) → 2 ^ j ≤ n → n * 2 ^ p / 2 ^ z < 2 ^ w → j + p < w + z
+shift-reach n j p z w h k =
+    lt-of-not-le (λ (g : w + z ≤ j + p).
+    not-le-of-lt (lt-of-le-of-lt (le-trans (le-of-eq (pow-add 2 j p)) (mul-le-mul-right (2 ^ p) h)) (div-lt-iff-lt-mul (pow-pos z) .0 k))
+    (le-trans (le-of-eq (sym (pow-add 2 w z))) (pow-mono g)))
 
 -- ---- n / u to the nearest whole number, for every u
 module _ (n u : ℕ) where
@@ -93,8 +121,7 @@ closest-one x = rw (div-one x, mod-one x)
 -- only the difference of the two counts matters
 pub closest-scale : (n p z q y : ℕ) → p + y ≡ q + z → closest (n * 2 ^ p) (2 ^ z) ≡ closest (n * 2 ^ q) (2 ^ y)
 closest-scale n p z q y e =
-    closest-same (n * 2 ^ p) (2 ^ z) (n * 2 ^ q) (2 ^ y) (pow-pos z) (pow-pos y)
-    (mul-assoc n (2 ^ p) (2 ^ y) ∙ ap (λ (x : ℕ). n * x) (powers p y q z e) ∙ sym (mul-assoc n (2 ^ q) (2 ^ z)))
+    closest-same (n * 2 ^ p) (2 ^ z) (n * 2 ^ q) (2 ^ y) (pow-pos z) (pow-pos y) (cross-scale n p z q y e)
 
 -- with room for all digits, none is dropped
 pub closest-whole : (n z p : ℕ) → z ≤ p → closest (n * 2 ^ p) (2 ^ z) ≡ n * 2 ^ (p - z)

@@ -1,6 +1,6 @@
 -- Order of results: a sum of values that are not negative is no smaller than either, and a remainder is no larger than the divisor. Assumes nothing.
 use mathlib.Core.Path.{_≡_, refl}
-use mathlib.Core.Bool.{Bool, true, false, not, _&&_, _||_, cond, false≢true, or-true}
+use mathlib.Core.Bool.{Bool, true, false, _&&_, _||_, cond, false≢true, or-true}
 use Prim.Native.Nat.{ℕ, zero, suc, _+_, _-_, _*_, _%_, _<_, _≤_}
 use native.Mathlib.Nat.{mul-pos, mul-comm, mul-assoc, mul-left-comm, mul-le-mul-right, le-trans, le-of-eq, mod-lt, zero-mod, le-of-lt, zero-lt-suc}
 use native.Mathlib.Omega.{arith}
@@ -8,7 +8,7 @@ use borrow.Author.Tests.{le-ltb, eq-eqb}
 use lib.Dec.{T, ltb, eqb·suc-zero}
 use lib.IntN.{ℤ}
 use lib.Ieee as Ieee
-use lib.Ieee.{Float, nan, inf, fin, Format, up, down, round, sum, add, rem, le, fits, ofBits}
+use lib.Ieee.{Float, nan, inf, fin, Format, up, down, round, add, rem, le, fits, ofBits}
 use lib.Ieee.Bits.{is-true}
 use lib.Ieee.Fits.{up-pos, down-pos}
 use lib.Ieee.Exact.{HasValue}

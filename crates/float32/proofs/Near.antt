@@ -1,17 +1,15 @@
 -- How far rounding to 24 binary digits moves a fraction: by one part in 2 ^ 24, and one unit, at most. Assumes nothing.
-use mathlib.Core.Path.{_≡_, refl, sym, ap, _∙_}
-use mathlib.Core.Logic.{_⊎_, inl, inr}
-use mathlib.Core.Bool.{Bool, true, false}
+use mathlib.Core.Path.{_≡_, sym, ap, _∙_}
+use mathlib.Core.Logic.{inl, inr}
 use Prim.Native.Nat.{ℕ, _+_, _-_, _*_, _/_, _%_, _^_, _<_, _≤_, compare}
-use native.Mathlib.Nat.{le-trans, le-of-eq, mod-lt, div-add-mod', add-mul, one-mul, mul-one, mul-assoc, mul-comm, mul-right-comm, mul-le-mul-right, mul-pos, eq-or-lt-of-le, eq-zero-or-pos, le-div-iff-mul-le}
+use native.Mathlib.Nat.{le-trans, le-of-eq, mod-lt, div-add-mod', add-mul, one-mul, mul-one, mul-assoc, mul-comm, mul-right-comm, mul-le-mul-right, mul-pos, eq-zero-or-pos, le-div-iff-mul-le}
 use native.Mathlib.Omega.{arith}
-use borrow.Author.Tests.{ltb-true, ltb-false}
-use lib.Dec.{ltb}
 use lib.Pow.{pow-add, pow-pos}
 use lib.Ieee.{size}
 use lib.Ieee.Digits.{size-reaches}
 use lib.Ieee.Nearest.{closest, nearest-ge}
 use lib.Ieee.Order.{drop, kept}
+use Rattle.float32.proofs.Order.{three}
 use Rattle.float32.proofs.Digits.{closest-down, closest-up, closest-tie}
 
 -- x is no more than y and one part in 2 ^ 24 more, and z units
@@ -32,13 +30,6 @@ near-is p q r h = rw (← p, ← q, ← r) h
 
 pub near-more : (x y : ℕ) {z w : ℕ} → Near x y z → z ≤ w → Near x y w
 near-more x y h k = omega arith
-
-three : (a b : ℕ) → (a < b) ⊎ ((a ≡ b) ⊎ (b < a))
-three a b = go (ltb a b) refl
-  where
-    go : (t : Bool) → ltb a b ≡ t → (a < b) ⊎ ((a ≡ b) ⊎ (b < a))
-    go true e = inl (ltb-true a b e)
-    go false e = inr (elim (eq-or-lt-of-le (ltb-false a b e)) [ inl p ↦ inl (sym p) | inr p ↦ inr p ])
 
 -- a / b to the nearest whole number is off by a half at most
 pub closest-within : (a b : ℕ) → 0 < b → (a * 2 ≤ closest a b * b * 2 + b) × (closest a b * b * 2 ≤ a * 2 + b)

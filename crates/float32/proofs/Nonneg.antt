@@ -167,8 +167,8 @@ ofInt-above f n h =
     (subst (λ (x : Float). T (le x (round f false n 1))) (one-round f) (round-mono f 1 1 n 1 (lit≤ tt) (lit≤ tt) (omega arith)))
 
 -- a base above zero times a count of 1 or more: the run
-pub times-count : (base : Float) (n : ℕ) → lt zeroF base ≡ true → 0 < n → nonnegF (mul binary32 base (ofInt binary32 (pos n))) ≡ true
-times-count base n h k = mul-above binary32 base (ofInt binary32 (pos n)) (above-of-lt base h) (ofInt-above binary32 n k)
+pub times-count : (f : Format) (base : Float) (n : ℕ) → lt zeroF base ≡ true → 0 < n → nonnegF (mul f base (ofInt f (pos n))) ≡ true
+times-count f base n h k = mul-above f base (ofInt f (pos n)) (above-of-lt base h) (ofInt-above f n k)
 
 -- ---- `nonnegF` by comparisons
 -- such a value is no NaN

@@ -1,20 +1,21 @@
--- Values above zero in units of the smallest one: integers, products, quotients and sums of them. Assumes nothing.
+-- Values of binary32 above zero, in units of 2 ^ -149: integers, products, quotients and sums of them. At one format, since the walk's drift is counted in its 24 digits (Near). Assumes nothing.
 use mathlib.Core.Path.{_≡_, refl, sym, ap, subst, _∙_}
-use mathlib.Core.Bool.{Bool, true, false, cond, true≢false, false≢true}
-use Prim.Native.Nat.{ℕ, zero, suc, _+_, _-_, _*_, _/_, _^_, _<_, _≤_, min}
-use native.Mathlib.Nat.{le-trans, le-of-eq, le-of-lt, lt-of-lt-of-le, lt-irrefl, zero-lt-suc, add-mul, mul-one, mul-assoc, mul-comm, mul-left-comm, mul-right-comm, mul-le-mul-right, mul-pos, le-of-mul-le-mul-right, div-lt-iff-lt-mul}
+use mathlib.Core.Bool.{Bool, true, false, cond}
+use Prim.Native.Nat.{ℕ, zero, suc, _+_, _*_, _^_, _<_, _≤_}
+use native.Mathlib.Nat.{le-trans, le-of-eq, zero-lt-suc, add-mul, mul-one, mul-assoc, mul-comm, mul-left-comm, mul-right-comm, mul-le-mul-right, mul-pos}
 use native.Mathlib.Omega.{arith}
 use lib.Dec.{T, eqb, lit≤, eqb·suc-zero}
 use lib.Pow.{pow-pos}
-use lib.Ieee.{Float, nan, inf, fin, binary32, low, up, down, round, add, mul, div, ofInt, le, fits, toUnsigned}
-use lib.Ieee.Fits.{down-pos}
+use lib.Ieee.{Float, nan, inf, fin, binary32, low, up, down, round, add, mul, div, le, fits}
+use lib.Ieee.Digits.{size-le}
 use lib.Ieee.Exact.{HasValue}
 use lib.Ieee.Scale.{grid, finite, round-val, round-under, round-same}
 use lib.Ieee.Positive.{num, den, den-pos, positive, above, own-value, value→cross, value-pos, mul-at}
-use Rattle.float32.specs.Helpers.{fromU32, toU32, nonnegF}
+use Rattle.float32.specs.Helpers.{fromU32}
 use Rattle.float32.proofs.Value.{round-own}
 use Rattle.float32.proofs.Grow.{round-le}
 use Rattle.float32.proofs.Nonneg.{ofInt-above}
+use Rattle.float32.proofs.Convert.{ofInt-value}
 use Rattle.float32.proofs.Near.{Near, kept24, near-low, near-high}
 
 -- how many units there are in 1
@@ -60,9 +61,6 @@ round-le-value (fin false zero e) q a p k v h = absurd k
 round-le-value (fin false (suc n) d) q a p k v h = round-le binary32 n d a D p D-pos (le-trans (mul-le-mul-right (down d) h) (le-of-eq (sym (v .1))))
 
 -- ---- an integer
-small : (x y d : ℕ) → Near (x * 1) y 1 → y ≤ 4294967295 * d → 0 < d → x < d * 17179869184
-small x y d h k l = omega arith
-
 module _ (c : ℕ) (top : c ≤ 4294967295) where
   abbrev pub int : ℕ
   int = kept24 (c * D) 1
@@ -73,12 +71,14 @@ module _ (c : ℕ) (top : c ≤ 4294967295) where
   pub int-high : Near int (c * D) 1
   int-high = rw mul-one at (near-high (c * D) 1 (zero-lt-suc 0))
 
-  pub int-value : HasValue (fromU32 c) false int D
-  unfolding ofInt
-  int-value = round-val binary32 c 1 (lt-of-lt-of-le (small int (c * D) D (near-high (c * D) 1 (zero-lt-suc 0)) (mul-le-mul-right D top) D-pos) (lit≤ tt))
+  pub int-value : 0 < c → HasValue (fromU32 c) false int D
+  int-value h = ofInt-value binary32 c h (le-trans (size-le c 32 (below c top)) (lit≤ tt))
+    where
+      below : (c : ℕ) → c ≤ 4294967295 → c < 2 ^ 32
+      below c l = omega arith
 
   pub int-positive : 0 < c → T (positive (fromU32 c))
-  int-positive h = value-above (fromU32 c) int D int-value (ofInt-above binary32 c h)
+  int-positive h = value-above (fromU32 c) int D (int-value h) (ofInt-above binary32 c h)
 
 -- ---- a product
 -- with a factor above zero it is finite only where the other is
@@ -155,31 +155,3 @@ add-at x y a b p q v w =
         ∙ ap (λ (z : ℕ). z + ny * dx * D) (mul-right-comm nx dy D ∙ ap (λ (z : ℕ). z * dy) h ∙ mul-assoc a dx dy)
         ∙ ap (λ (z : ℕ). a * (dx * dy) + z) (mul-right-comm ny dx D ∙ ap (λ (z : ℕ). z * dx) k ∙ mul-assoc b dy dx ∙ ap (λ (z : ℕ). b * z) (mul-comm dy dx))
         ∙ sym (add-mul a b (dx * dy))
-
--- ---- a cut to u32 that is not the largest one
-pub cut-finite : (x : Float) → nonnegF x ≡ true → toU32 x < 4294967295 → T (finite x)
-unfolding toUnsigned
-cut-finite nan h k = absurd (false≢true h)
-cut-finite (inf true) h k = absurd (false≢true h)
-cut-finite (inf false) h k = absurd (lt-irrefl 4294967295 k)
-cut-finite (fin s m e) h k = tt
-
-pub cut-value : (x : Float) (g : ℕ) → HasValue x false g D → toU32 x < 4294967295 → g ≤ (toU32 x + 1) * D
-unfolding toUnsigned
-cut-value nan g v k = absurd v
-cut-value (inf s) g v k = absurd v
-cut-value (fin true m e) g v k = absurd (true≢false (v .0))
-cut-value (fin false m e) g v k =
-    let q = m * up e / down e in
-    let same : q ≡ min q 4294967295 = least q k in
-    let l : m * up e < (q + 1) * down e = div-lt-iff-lt-mul (down-pos e) .0 (more q) in
-    rw (← same)
-    (le-of-mul-le-mul-right
-    (le-trans (le-of-eq (sym (v .1))) (le-trans (mul-le-mul-right D (le-of-lt l)) (le-of-eq (mul-right-comm (q + 1) (down e) D))))
-    (down-pos e))
-  where
-    least : (q : ℕ) → min q 4294967295 < 4294967295 → q ≡ min q 4294967295
-    least q h = omega arith
-
-    more : (q : ℕ) → q < q + 1
-    more q = omega arith

@@ -1,6 +1,6 @@
 // Rust's helpers on f32 that the language lacks (paper 01, part 1), worked out by tests and from the bits.
 ghost use mathlib.Core.Path.{_≡_};
-ghost use Prim.Native.Nat.{_*_, _^_, _<_, _≤_};
+ghost use Prim.Native.Nat.{_+_, _*_, _/_, _%_, _^_, _<_, _≤_};
 ghost use lib.Ieee as Ieee;
 ghost use lib.Ieee.Nearest.{closest};
 ghost use Rattle.float32.specs.Helpers.{maxF, minF, clampF, finiteF, infinityF, fromU32, toU32, fromBits, toBits};
@@ -51,6 +51,13 @@ pub fn is_nan(x: f32) -> bool
     x != x
 }
 
+// The exponent's field of a pattern.
+fn exponent_of(bits: u32) -> u32
+    ensures { λ r. ⌜ r ≡ bits % Ieee.top Ieee.binary32 / Ieee.hid Ieee.binary32 ⌝ }
+{
+    bits % 0x8000_0000 / 0x80_0000
+}
+
 // `x.is_finite()`: the exponent's field is not all ones. A NaN is tested first, since its bits are left open.
 pub fn is_finite(x: f32) -> bool
     ensures { λ r. ⌜ r ≡ finiteF x ⌝ }
@@ -58,8 +65,8 @@ pub fn is_finite(x: f32) -> bool
     if x != x {
         return false;
     }
-    let b: u32 = f32::to_bits(x);
-    b % 0x8000_0000 / 0x80_0000 != 255
+    let bits: u32 = f32::to_bits(x);
+    exponent_of(bits) != 255
 }
 
 // The count of n's binary digits.
@@ -107,13 +114,35 @@ pub fn from_u32(n: u32) -> f32
     f32::from_bits((125 + size) * 0x80_0000 + significand(n, size))
 }
 
-// `x as u32`
+// The 24 digits of a pattern: the leading one, which it leaves out, and those that it has.
+fn digits_of(bits: u32) -> u32
+    ensures { λ r. ⌜ r ≡ Ieee.hid Ieee.binary32 + bits % Ieee.hid Ieee.binary32 ⌝ }
+{
+    0x80_0000 + bits % 0x80_0000
+}
+
+// The whole part of digits * 2^(field - 150), which is a value's size by its pattern: the digits, shifted. Below a field of 127 it is below 1.
+fn whole_part(digits: u32, field: u32) -> u32
+    requires { ⌜ (digits < 2 ^ 24) × (field ≤ 158) ⌝ }
+    ensures { λ r. ⌜ r ≡ digits * 2 ^ field / 2 ^ 150 ⌝ }
+{
+    if field < 127 {
+        return 0;
+    }
+    if field < 150 {
+        return digits >> (150 - field);
+    }
+    digits << (field - 150)
+}
+
+// `x as u32`, from the bits. NaN and the ends of the range come first: 0 up to -1, and the largest from 2^32 on.
 pub fn to_u32(x: f32) -> u32
     ensures { λ r. ⌜ r ≡ toU32 x ⌝ }
 {
     if x > -1.0 {
         if x < 4294967296.0 {
-            return std::num::truncating_f32_to_u64(x) as u32;
+            let bits: u32 = f32::to_bits(x);
+            return whole_part(digits_of(bits), exponent_of(bits));
         }
         return 4294967295;
     }

@@ -34,7 +34,7 @@ above-zero x h z = go (lt zeroF x) refl
 
 times-nonneg : (base : Float) (n : ℕ) → lt zeroF base ≡ true → nonnegF (timesRun base n) ≡ true
 unfolding timesRun
-times-nonneg base n h = times-count base _ h (omega arith)
+times-nonneg base n h = times-count binary32 base _ h (omega arith)
 
 run-in-nonneg : (mode : Loop) (base : Float) → nonnegF base ≡ true → lt zeroF base ≡ true → nonnegF (runIn mode base) ≡ true
 run-in-nonneg Once base h p = h

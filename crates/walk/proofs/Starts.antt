@@ -16,9 +16,10 @@ use Rattle.float32.specs.Helpers.{zeroF, maxF, fromU32, toU32, nonnegF}
 use Rattle.float32.proofs.Order.{lt-of-le-of-lt, not-lt-of-le}
 use Rattle.float32.proofs.Nonneg.{max-zero-same, round-nonneg, mul-above, ofInt-above}
 use Rattle.float32.proofs.Convert.{ofInt-mono}
+use Rattle.float32.proofs.Cut.{cut-finite, cut-below}
 use Rattle.float32.proofs.Near.{Near, near-times, kept24, near-low, near-high}
 use Rattle.walk.proofs.Drift as drift
-use Rattle.float32.proofs.Units.{D, D-pos, D-16, finite-above, fits-value, round-le-value, int, int-low, int-high, int-value, int-positive, mul-finite, mul-value, div-at, add-at, cut-finite, cut-value}
+use Rattle.float32.proofs.Units.{D, D-pos, D-16, finite-above, fits-value, round-le-value, int, int-low, int-high, int-value, int-positive, mul-finite, mul-value, div-at, add-at}
 
 pub T-true : (b : Bool) → b ≡ true → T b
 T-true true e = tt
@@ -101,7 +102,7 @@ module _ (P : Float) (fit : T (fits binary32 P)) (up : T (above P)) where
     s = kept24 (int c top * p * D) (D * D)
 
     s-value : HasValue (start c) false s D
-    s-value = mul-value (fromU32 c) P (int c top) p c-pos P-pos (int-value c top) p-value h
+    s-value = mul-value (fromU32 c) P (int c top) p c-pos P-pos (int-value c top (omega arith)) p-value h
 
     s-low : Near (int c top * p * D) (s * (D * D)) (D * D)
     s-low = near-low (int c top * p * D) (D * D) (mul-pos D-pos D-pos)
@@ -131,11 +132,11 @@ module _ (P : Float) (fit : T (fits binary32 P)) (up : T (above P)) where
       let non : nonnegF (div binary32 prev P) ≡ true = rw isQ (round-nonneg binary32 (num prev * D) (q * den prev)) in
       let cut : maxF (div binary32 prev P) zeroF ≡ round binary32 false (num prev * D) (q * den prev) = max-zero-same (div binary32 prev P) non ∙ isQ in
       let low : toU32 (round binary32 false (num prev * D) (q * den prev)) < 4294967295 = subst (λ (x : Float). toU32 x < 4294967295) cut (below far) in
-      let fin-q : T (finite (round binary32 false (num prev * D) (q * den prev))) = cut-finite (round binary32 false (num prev * D) (q * den prev)) (round-nonneg binary32 (num prev * D) (q * den prev)) low in
+      let fin-q : T (finite (round binary32 false (num prev * D) (q * den prev))) = cut-finite 32 (round binary32 false (num prev * D) (q * den prev)) (round-nonneg binary32 (num prev * D) (q * den prev)) low in
       let val : HasValue (round binary32 false (num prev * D) (q * den prev)) false (grid binary32 (num prev * D) (q * den prev)) D =
       round-val binary32 (num prev * D) (q * den prev) (round-under binary32 (num prev * D) (q * den prev) fin-q) in
       let g-le : grid binary32 (num prev * D) (q * den prev) ≤ (first prev + 1) * D =
-      subst (λ (x : Float). grid binary32 (num prev * D) (q * den prev) ≤ (toU32 x + 1) * D) (sym cut) (cut-value (round binary32 false (num prev * D) (q * den prev)) (grid binary32 (num prev * D) (q * den prev)) val low) in
+      subst (λ (x : Float). grid binary32 (num prev * D) (q * den prev) ≤ (toU32 x + 1) * D) (sym cut) (cut-below 32 (round binary32 false (num prev * D) (q * den prev)) (grid binary32 (num prev * D) (q * den prev)) D D-pos val low) in
       drift.early D q D-16 Q c (first prev) (int c top) (s c two top h) (num prev) (den prev) (grid binary32 (num prev * D) (q * den prev)) (den-pos prev)
       (int-low c top) (s-low c two top h)
       (values-of-le (start c) prev (s c two top h) D (num prev) (den prev) (s-pos c two top h) posV (s-value c two top h) (own-value prev posV) (T-true _ l))

@@ -9,11 +9,14 @@ use Rattle.float32.proofs.is_finite.Tie as tie
 returns : tie.Need-returns
 returns c = sym (finite-nan _ (sym (ne-self _) ∙ c .if1 .taken))
 
-float-to-bits-b : tie.Need-float-to-bits-b
-float-to-bits-b c = no-nan _ (c .if1 .left)
+float-to-bits-bits : tie.Need-float-to-bits-bits
+float-to-bits-bits c = no-nan _ (c .if1 .left)
+
+exponent-of-requires : tie.Need-exponent-of-requires
+exponent-of-requires c κs = search needs
 
 returns-2 : tie.Need-returns-2
-returns-2 c = sym (finite-field binary32 _ (search needs))
+returns-2 c = rw (c .exponent-of .ensures) (sym (finite-field binary32 _ (search needs)))
 
 pub is-finite-spec : {M : Type 1} → statement M
-is-finite-spec = tie.close (tie.spec returns float-to-bits-b returns-2)
+is-finite-spec = tie.close (tie.spec returns float-to-bits-bits exponent-of-requires returns-2)
