@@ -18,6 +18,9 @@ mod record;
 mod rng;
 mod rules;
 mod scripts;
+#[cfg(test)]
+#[path = "../../sha256.rs"]
+mod sha256;
 mod sheets;
 mod tally;
 mod trace;
