@@ -272,7 +272,7 @@ impl Ended {
         if self.status == Some(2) && self.written == expected && self.one_line() {
             return Ok(Ending::Begun);
         }
-        Err(self.wrong("status 2, a beginning", expected))
+        Err(self.wrong("a beginning and status 2", expected))
     }
 
     /// The whole log, and status 0 and silence, or 1 and one line for a refused sheet.
@@ -282,7 +282,7 @@ impl Ended {
         match (self.status, input.refused()) {
             (Some(0), false) if same && self.said.is_empty() => Ok(Ending::Whole),
             (Some(1), true) if same && self.one_line() => Ok(Ending::Refused),
-            _ => Err(self.wrong("the whole log, and its status", input.log.as_bytes())),
+            _ => Err(self.wrong("the whole log and its status", input.log.as_bytes())),
         }
     }
 
@@ -303,7 +303,7 @@ impl Ended {
         let (written, said) = (&self.written, &self.said);
         let same = written.iter().zip(expected).take_while(|(a, b)| a == b);
         format!(
-            "    wanted: {wanted} of {} bytes\n    status {:?}, {} bytes, of which {} are right; said: {said:?}",
+            "    wanted: {wanted}, {} bytes\n    status {:?}, {} bytes, of which {} are right; said: {said:?}",
             expected.len(),
             self.status,
             written.len(),
