@@ -1,9 +1,11 @@
 //! The comparison of `door_log`: sheets and scripts, good and damaged, and the log that the Rust gives.
-//! One input is one run of the program, so several runs go on at once.
+//! One input is one run of the program, so several runs go on at once. Some inputs are long, and some
+//! come in pieces.
 
 use crate::call::{Call, Lent, Update};
 use crate::checked::Checked;
 use crate::damage;
+use crate::pipe;
 use crate::port::root;
 use crate::reader::{self, At, Described, Entry, Mode};
 use crate::rng::Rng;
@@ -12,11 +14,11 @@ use animato_timeline::{Timeline, TimelineState};
 use std::any::Any;
 use std::fmt::Write as _;
 use std::fs::{self, File};
-use std::io::{Read, Write as _};
-use std::process::{Command, Stdio};
+use std::io::{self, Read, Write as _};
+use std::process::{ChildStdin, Command, Stdio};
 use std::sync::{Arc, Mutex};
 use std::thread;
-use std::time::Instant;
+use std::time::{Duration, Instant};
 
 pub const PROGRAM: &str = "door_log";
 
@@ -33,6 +35,9 @@ const CUT: u8 = 7;
 #[derive(Default)]
 struct Tally {
     inputs: u64,
+    /// Above 200 KB, and fed in pieces.
+    long: u64,
+    pieces: u64,
     lines: u64,
     /// Sheets, by their number.
     sheets: [u64; 16],
@@ -157,7 +162,7 @@ fn log(input: &[u8], tally: &mut Tally) -> String {
 }
 
 /// "zeros of either sign agree".
-fn zeroless(log: &str) -> String {
+pub fn zeroless(log: &str) -> String {
     log.replace(" 80000000", " 00000000")
 }
 
@@ -260,7 +265,7 @@ fn operand(rng: &mut Rng, byte: u8, base: f32) -> u32 {
     }
 }
 
-fn script(rng: &mut Rng, sheet: &[u8]) -> Vec<u8> {
+fn script(rng: &mut Rng, sheet: &[u8], calls: u32) -> Vec<u8> {
     let base = reader::read(sheet).map_or(1.0, |described| {
         let mut panel = Checked::new();
         for call in described.calls() {
@@ -269,7 +274,7 @@ fn script(rng: &mut Rng, sheet: &[u8]) -> Vec<u8> {
         panel.twins.base()
     });
     let mut script = Vec::new();
-    for index in 0..rng.below(40) {
+    for index in 0..calls {
         let byte = match rng.below(64) {
             0 => 8 + rng.below(248) as u8,
             1..=3 => 1,
@@ -292,7 +297,7 @@ fn script(rng: &mut Rng, sheet: &[u8]) -> Vec<u8> {
     script
 }
 
-fn input(rng: &mut Rng) -> Vec<u8> {
+pub fn input(rng: &mut Rng) -> Vec<u8> {
     let mut sheet = match rng.below(20) {
         0 => damage::noise(rng),
         1..=4 => damage::random(rng),
@@ -317,12 +322,21 @@ fn input(rng: &mut Rng) -> Vec<u8> {
             65_535,
         ]);
     }
-    let script = script(rng, &sheet);
+    let calls = rng.below(40);
+    let script = script(rng, &sheet, calls);
     let mut input = [&length.to_le_bytes()[..], &sheet, &script].concat();
     if rng.below(32) == 0 {
         input.truncate(rng.below(input.len() as u32) as usize);
     }
     input
+}
+
+/// A good sheet, and so many calls that the input is a long one.
+fn long(rng: &mut Rng) -> Vec<u8> {
+    let sheet = everyday(rng);
+    let calls = 41_000 + rng.below(4_000);
+    let script = script(rng, &sheet, calls);
+    [&(sheet.len() as u16).to_le_bytes()[..], &sheet, &script].concat()
 }
 
 // Runs of the program
@@ -376,34 +390,64 @@ impl Program {
         command
     }
 
-    /// What it writes on an input that a pipe holds.
-    fn log(&self, input: &[u8]) -> Result<Vec<u8>, String> {
-        let fail = |e: std::io::Error| format!("{PROGRAM}: {e}");
+    /// What it writes on an input that comes by a pipe, and what it says on standard error.
+    fn log(&self, input: &[u8], feed: Feed) -> Result<(Vec<u8>, String), String> {
+        let fail = |e: io::Error| format!("{PROGRAM}: {e}");
         let mut child = self
             .command()
             .stdin(Stdio::piped())
             .stdout(Stdio::piped())
+            .stderr(Stdio::piped())
             .spawn()
             .map_err(fail)?;
-        let mut pipe = child.stdin.take().expect("a pipe");
+        let stdin = child.stdin.take().expect("a pipe");
+        let mut stdout = child.stdout.take().expect("a pipe");
+        let mut stderr = child.stderr.take().expect("a pipe");
+        let (mut out, mut said) = (Vec::new(), String::new());
+        // The two ends at once: neither pipe holds a long input, or its log.
+        let (fed, read) = thread::scope(|scope| {
+            let feeder = scope.spawn(|| feed(stdin, input));
+            let read = stdout.read_to_end(&mut out);
+            (feeder.join().expect("a feeder"), read)
+        });
+        read.map_err(fail)?;
+        stderr.read_to_string(&mut said).map_err(fail)?;
         // A refused sheet ends the program before it has read the script.
-        match pipe.write_all(input) {
-            Err(e) if e.kind() != std::io::ErrorKind::BrokenPipe => return Err(fail(e)),
-            _ => drop(pipe),
+        match fed {
+            Err(e) if e.kind() != io::ErrorKind::BrokenPipe => return Err(fail(e)),
+            _ => {}
         }
-        let mut out = Vec::new();
-        child
-            .stdout
-            .take()
-            .expect("a pipe")
-            .read_to_end(&mut out)
-            .map_err(fail)?;
         let status = child.wait().map_err(fail)?;
         if !status.success() {
-            return Err(format!("{PROGRAM}: the program ended with {status}"));
+            return Err(format!(
+                "{PROGRAM}: the program ended with {status}: {said}"
+            ));
         }
-        Ok(out)
+        Ok((out, said))
     }
+}
+
+/// How an input is written into the pipe.
+type Feed = fn(ChildStdin, &[u8]) -> io::Result<()>;
+
+fn whole(mut pipe: ChildStdin, input: &[u8]) -> io::Result<()> {
+    pipe.write_all(input)
+}
+
+/// In pieces of 1 to 11 bytes, each after the one before it has been read.
+fn in_pieces(mut pipe: ChildStdin, input: &[u8]) -> io::Result<()> {
+    let mut rng = Rng::new(input.len() as u64);
+    let mut rest = input;
+    while !rest.is_empty() {
+        let length = rest.len().min(1 + rng.below(11) as usize);
+        let (piece, after) = rest.split_at(length);
+        pipe.write_all(piece)?;
+        while pipe::held(&pipe)? > 0 && !pipe::alone(&pipe)? {
+            thread::sleep(Duration::from_micros(10));
+        }
+        rest = after;
+    }
+    Ok(())
 }
 
 pub struct Options {
@@ -416,22 +460,82 @@ pub struct Options {
 /// Inputs that are compared at once.
 const BATCH: u64 = 1024;
 
-/// Compares the logs of `inputs` inputs. Of a difference the input and both logs are shown.
+/// One input in so many is above 200 KB, and one in so many comes in pieces.
+const ONE_LONG_IN: u64 = 5000;
+const ONE_IN_PIECES_IN: u64 = 100;
+const LONG: usize = 200 * 1024;
+
+struct Case {
+    input: Vec<u8>,
+    feed: Feed,
+    log: String,
+}
+
+impl Case {
+    /// The case with this number, from 0.
+    fn new(number: u64, rng: &mut Rng, tally: &mut Tally) -> Self {
+        let input = match number % ONE_LONG_IN {
+            0 => long(rng),
+            _ => input(rng),
+        };
+        let pieces = number % ONE_IN_PIECES_IN == 1;
+        tally.long += u64::from(input.len() > LONG);
+        tally.pieces += u64::from(pieces);
+        Case {
+            feed: if pieces { in_pieces } else { whole },
+            log: log(&input, tally),
+            input,
+        }
+    }
+
+    /// Runs the program, which says nothing of a log with an accepted sheet.
+    fn same(&self, program: &Program) -> Result<(), String> {
+        let (output, said) = program.log(&self.input, self.feed)?;
+        let output = String::from_utf8_lossy(&output);
+        let silent = said.is_empty() || !self.log.starts_with("sheet 0 ");
+        if zeroless(&output) == zeroless(&self.log) && silent {
+            return Ok(());
+        }
+        Err(self.shown(&output, &said))
+    }
+
+    /// Of a difference the input and both logs are shown; of a long input the first line that differs.
+    fn shown(&self, output: &str, said: &str) -> String {
+        let expected = &self.log;
+        if self.input.len() <= LONG {
+            let hex: String = self.input.iter().map(|b| format!("{b:02x}")).collect();
+            return format!(
+                "{PROGRAM}: the logs of this input differ\n{hex}\nexpected:\n{expected}port:\n{output}{said}"
+            );
+        }
+        let pairs = expected.lines().zip(output.lines());
+        let same = pairs.take_while(|(one, other)| zeroless(one) == zeroless(other));
+        let line = same.count();
+        let [expected, port] = [expected, output].map(|log| log.lines().nth(line));
+        format!(
+            "{PROGRAM}: the logs of an input of {} bytes differ in line {}\nexpected: {expected:?}\nport: {port:?}\n{said}",
+            self.input.len(),
+            line + 1
+        )
+    }
+}
+
+/// Compares the logs of `inputs` inputs.
 pub fn compare(options: &Options) -> Result<(), String> {
     let program = Program::new(options.port.as_deref())?;
     let jobs = thread::available_parallelism().map_or(1, usize::from);
     let mut rng = Rng::new(options.seed);
     let mut tally = Tally::default();
     while tally.inputs < options.inputs {
-        let count = BATCH.min(options.inputs - tally.inputs);
-        let inputs: Vec<Vec<u8>> = (0..count).map(|_| input(&mut rng)).collect();
-        let logs: Vec<String> = inputs.iter().map(|input| log(input, &mut tally)).collect();
-        let batch: Vec<(&Vec<u8>, &String)> = inputs.iter().zip(&logs).collect();
+        let numbers = tally.inputs..options.inputs.min(tally.inputs + BATCH);
+        let batch: Vec<Case> = numbers
+            .map(|number| Case::new(number, &mut rng, &mut tally))
+            .collect();
         let each = batch.len().div_ceil(jobs);
         thread::scope(|scope| {
             let runs: Vec<_> = batch
                 .chunks(each)
-                .map(|part| scope.spawn(|| part.iter().try_for_each(|(i, l)| same(&program, i, l))))
+                .map(|part| scope.spawn(|| part.iter().try_for_each(|case| case.same(&program))))
                 .collect();
             let joined = runs.into_iter().map(|run| run.join().expect("a run"));
             joined.collect::<Result<(), String>>()
@@ -442,21 +546,12 @@ pub fn compare(options: &Options) -> Result<(), String> {
     tally.verdict(options.least)
 }
 
-fn same(program: &Program, input: &[u8], expected: &str) -> Result<(), String> {
-    let output = program.log(input)?;
-    let output = String::from_utf8_lossy(&output);
-    if zeroless(&output) == zeroless(expected) {
-        return Ok(());
-    }
-    let hex: String = input.iter().map(|byte| format!("{byte:02x}")).collect();
-    Err(format!(
-        "{PROGRAM}: the logs of this input differ\n{hex}\nexpected:\n{expected}port:\n{output}"
-    ))
-}
-
 impl Tally {
     fn print(&self) {
-        println!("  {} inputs, {} lines", self.inputs, self.lines);
+        println!(
+            "  {} inputs, {} of them above 200 KB, {} in pieces of 1 to 11 bytes; {} lines",
+            self.inputs, self.long, self.pieces, self.lines
+        );
         println!("  sheets by number, 0 to 15: {:?}", self.sheets);
         println!("  calls by byte, others, left over: {:?}", self.calls);
         println!("  calls by refusal, 0 to 15: {:?}", self.refusals);
@@ -467,13 +562,16 @@ impl Tally {
         );
     }
 
-    /// Enough inputs, and all that a log can have.
+    /// Enough inputs, long ones and ones in pieces, and all that a log can have.
     fn verdict(&self, least: u64) -> Result<(), String> {
-        if self.inputs < least {
-            return Err(format!(
-                "{PROGRAM}: {} inputs, fewer than {least}",
-                self.inputs
-            ));
+        for (count, least, what) in [
+            (self.inputs, least, "inputs"),
+            (self.long, least / ONE_LONG_IN, "inputs above 200 KB"),
+            (self.pieces, least / ONE_IN_PIECES_IN, "inputs in pieces"),
+        ] {
+            if count < least {
+                return Err(format!("{PROGRAM}: {count} {what}, fewer than {least}"));
+            }
         }
         let seen = [
             &self.calls[..],
@@ -494,13 +592,19 @@ impl Tally {
     }
 }
 
+/// The Rust's log of an input.
+pub fn rust_log(input: &[u8]) -> String {
+    log(input, &mut Tally::default())
+}
+
 /// Writes the Rust's log of the input on standard input.
 pub fn write_log() -> Result<(), String> {
     let mut input = Vec::new();
-    let io = |e: std::io::Error| e.to_string();
-    std::io::stdin().read_to_end(&mut input).map_err(io)?;
-    let log = log(&input, &mut Tally::default());
-    std::io::stdout().write_all(log.as_bytes()).map_err(io)
+    let fail = |e: io::Error| e.to_string();
+    io::stdin().read_to_end(&mut input).map_err(fail)?;
+    io::stdout()
+        .write_all(rust_log(&input).as_bytes())
+        .map_err(fail)
 }
 
 // Speed
@@ -587,7 +691,7 @@ fn plain_log(input: &[u8]) -> Vec<u8> {
 }
 
 /// A panel of so many bars in a row, and calls on it that are never refused.
-fn long_input(rng: &mut Rng, mode: Mode, entries: u32, calls: u32) -> Vec<u8> {
+pub fn long_input(rng: &mut Rng, mode: Mode, entries: u32, calls: u32) -> Vec<u8> {
     let entries = (0..entries).map(|k| Entry {
         at: At::End,
         label: format!("bar {k}").into_bytes(),
@@ -679,16 +783,16 @@ mod tests {
         let input = [&(sheet.len() as u16).to_le_bytes()[..], &sheet, &calls].concat();
         let expected =
             "sheet 0 2 3fc00000 3fc00000\n1 P 00000000 0\n2 P 3f800000 0 0\n3 C 3fc00000 0 1\n";
-        assert_eq!(log(&input, &mut Tally::default()), expected);
+        assert_eq!(rust_log(&input), expected);
         assert_eq!(plain_log(&input), expected.as_bytes());
         // "input that ends before the sheet does"
-        assert_eq!(log(&input[..47], &mut Tally::default()), "sheet 7\n");
-        assert_eq!(log(&[], &mut Tally::default()), "sheet 7\n");
+        assert_eq!(rust_log(&input[..47]), "sheet 7\n");
+        assert_eq!(rust_log(&[]), "sheet 7\n");
         // "An unknown call byte prints its line with 14 and the log goes on; leftover bytes print a last
         // line with 14."
         let odd = [&input[..48], &[8, 1, 2, 3, 4, 1, 0, 0, 0, 0, 0]].concat();
         let expected =
             "sheet 0 2 3fc00000 3fc00000\n1 I 00000000 14\n2 I 00000000 0\n3 I 00000000 14\n";
-        assert_eq!(log(&odd, &mut Tally::default()), expected);
+        assert_eq!(rust_log(&odd), expected);
     }
 }

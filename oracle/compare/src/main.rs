@@ -10,12 +10,17 @@ mod debug;
 mod door;
 mod floats;
 mod leaf;
+mod outputs;
+mod pipe;
 mod port;
 mod reader;
 mod record;
 mod rng;
 mod rules;
 mod scripts;
+#[cfg(test)]
+#[path = "../../sha256.rs"]
+mod sha256;
 mod sheets;
 mod tally;
 mod trace;
@@ -25,6 +30,7 @@ mod twins;
 use port::Port;
 use scripts::Kinds;
 use std::io::{self, Read, Write};
+use std::path::PathBuf;
 use std::process::ExitCode;
 
 const USAGE: &str = "usage:
@@ -36,6 +42,7 @@ const USAGE: &str = "usage:
   oracle sheets [--seed N] [--sheets N] [--least N] [--port COMMAND]
   oracle sheet-sample
   oracle doors [--seed N] [--inputs N] [--least N] [--port COMMAND]
+  oracle outputs [--seed N] [--runs N] [--least N] [--launcher FILE]
   oracle door-log
   oracle door-bench [--calls N] [--rounds N]
   oracle bench
@@ -99,6 +106,16 @@ fn run(words: &[&str]) -> Result<(), String> {
                 inputs: options.number("--inputs", 100_000)?,
                 least: options.number("--least", 0)?,
                 port: options.get("--port").map(String::from),
+            })
+        }
+        "outputs" => {
+            let known = ["--seed", "--runs", "--least", "--launcher"];
+            let options = Options::read(words, &known)?;
+            outputs::check(&outputs::Options {
+                seed: options.number("--seed", 1)?,
+                runs: options.number("--runs", 30)?,
+                least: options.number("--least", 0)?,
+                launcher: options.get("--launcher").map(PathBuf::from),
             })
         }
         "door-log" => Options::read(words, &[]).and_then(|_| door::write_log()),

@@ -52,6 +52,8 @@ const PLACEMENT: u8 = 10;
 const PAIR: u8 = 11;
 /// "12: a byte that must be 0 isn't."
 const NOT_ZERO: u8 = 12;
+/// "15: the room for a written sheet is too short."
+const ROOM: u8 = 15;
 
 /// What a sheet describes, or the number that refuses it: "First met refuses."
 pub fn read(sheet: &[u8]) -> Result<Described, u8> {
@@ -210,6 +212,29 @@ pub fn write(described: &Described) -> Vec<u8> {
     sheet
 }
 
+/// Writes the sheet of any description into a lent room: its length, or the number that refuses it.
+pub fn write_into(described: &Described, room: &mut [u8]) -> Result<usize, u8> {
+    // "It refuses by 8,"
+    let (entries, n) = (&described.entries, described.entries.len());
+    if n > 64 {
+        return Err(COUNT);
+    }
+    // "11 (label above 24),"
+    if entries.iter().any(|entry| entry.label.len() > 24) {
+        return Err(PAIR);
+    }
+    // "10 (target not below the count),"
+    let wrong = |at| matches!(at, At::Label(target) if usize::from(target) >= n);
+    if entries.iter().any(|entry| wrong(entry.at)) {
+        return Err(PLACEMENT);
+    }
+    // "15 in that order"; "A refused call writes nothing", "room beyond the sheet is untouched".
+    let sheet = write(described);
+    let lent = room.get_mut(..sheet.len()).ok_or(ROOM)?;
+    lent.copy_from_slice(&sheet);
+    Ok(sheet.len())
+}
+
 impl Described {
     /// "the panel that `add` and the setters build from it": the calls. A target's label "is then
     /// looked for among earlier entries", which are those that stand when `add` is called.
@@ -350,6 +375,38 @@ mod tests {
         assert_eq!(read(&sheet), Ok(expected));
         sheet.push(0);
         assert_eq!(number(&sheet), 7);
+    }
+
+    /// The writer's numbers, their order, and what it leaves of the room.
+    #[test]
+    fn writing_into_a_room() {
+        let written = |described: &Described, size: usize| {
+            let mut room = vec![9; size];
+            let made = write_into(described, &mut room);
+            (made, room)
+        };
+        let good = described();
+        assert_eq!(
+            written(&good, 48),
+            (Ok(46), [&EXAMPLE[..], &[9, 9]].concat())
+        );
+        assert_eq!(written(&good, 45), (Err(15), vec![9; 45]));
+        let spoiled = |target: bool, label: bool, count: bool| {
+            let mut described = described();
+            if target {
+                described.entries[0].at = At::Label(2);
+            }
+            if label {
+                described.entries[1].label = vec![b'b'; 25];
+            }
+            if count {
+                described.entries.resize(65, described.entries[0].clone());
+            }
+            written(&described, 45)
+        };
+        assert_eq!(spoiled(true, false, false), (Err(10), vec![9; 45]));
+        assert_eq!(spoiled(true, true, false), (Err(11), vec![9; 45]));
+        assert_eq!(spoiled(true, true, true), (Err(8), vec![9; 45]));
     }
 
     #[test]

@@ -8,7 +8,7 @@ use crate::leaf::Leaf;
 use crate::port::{self, Port};
 use crate::reader::{self, At, Described, Mode};
 use crate::rng::Rng;
-use crate::trace::{DIGESTS, TEXT, digest_line};
+use crate::trace::{DIGESTS, TEXT, digest, digest_line};
 use animato_core::Playable;
 use animato_timeline::{At as RustAt, Timeline, TimelineState};
 use animato_tween::Loop;
@@ -24,8 +24,10 @@ const LONGEST: usize = 4096;
 const BATCH: usize = 20_000;
 const BATCH_BYTES: usize = 8_000_000;
 
-/// "15: the room for a written sheet is too short."
-const ROOM_TOO_SHORT: u8 = 15;
+/// What a lent room holds before a sheet is written, and how much longer it is than the sheet where
+/// there is room to spare.
+const OLD: u8 = 238;
+const SPARE: usize = 8;
 
 /// The numbers by which sheets are refused.
 const REFUSALS: std::ops::RangeInclusive<u8> = 6..=12;
@@ -39,6 +41,7 @@ fn answer(sheet: &[u8]) -> (String, u8) {
         Ok(described) => {
             lines(0, &described, &mut out);
             written_lines(sheet, &described, &mut out);
+            spoiled_lines(sheet.len() + SPARE, &described, &mut out);
             (out, 0)
         }
         Err(refusal) => {
@@ -121,13 +124,85 @@ fn timeline_lines(timeline: &Timeline, out: &mut String) {
 /// "Rewriting an accepted sheet returns its bytes", "room beyond the sheet is untouched", and where
 /// there is room for one byte less 15, and nothing written.
 fn written_lines(sheet: &[u8], described: &Described, out: &mut String) {
-    let rewritten = reader::write(described);
-    let same = u8::from(rewritten == sheet);
-    for room in [sheet.len() + 8, sheet.len()] {
-        assert!(rewritten.len() <= room);
-        put!(out, "  write 0 {} {same} 1\n", rewritten.len());
+    for size in [sheet.len() + SPARE, sheet.len(), sheet.len() - 1] {
+        let mut room = vec![OLD; size];
+        let (refusal, len) = numbers(reader::write_into(described, &mut room));
+        let same = u8::from(room[..len] == sheet[..len]);
+        let rest = u8::from(room[len..].iter().all(|&byte| byte == OLD));
+        put!(out, "  write {refusal} {len} {same} {rest}\n");
     }
-    put!(out, "  write {ROOM_TOO_SHORT} 0 1 1\n");
+}
+
+/// The writer's refusals and their order: what it answers on the description with faults in it, all
+/// lengths that it answers together, and the digest of the rooms after it, one after the other.
+fn spoiled_lines(size: usize, described: &Described, out: &mut String) {
+    let (mut lens, mut rooms) = (0, Vec::new());
+    out.push_str("  spoiled");
+    for (faults, lent) in SPOILED {
+        let mut spoiled = described.clone();
+        faults.iter().for_each(|fault| fault(&mut spoiled));
+        let mut room = vec![OLD; if lent { size } else { 0 }];
+        let (refusal, len) = numbers(reader::write_into(&spoiled, &mut room));
+        put!(out, " {refusal}");
+        lens += len;
+        rooms.extend(room);
+    }
+    put!(out, "\n  rooms {lens} {:08x}\n", digest(&rooms));
+}
+
+/// A fault of a description. Those of entries come before that of the count.
+type Spoil = fn(&mut Described);
+
+/// The faults of each write, and whether there is any room.
+const SPOILED: [(&[Spoil], bool); 8] = [
+    (&[count_65], true),
+    (&[last_label_of_25], true),
+    (&[last_target_n], true),
+    (&[last_label_of_25, count_65], true),
+    (&[last_target_n, count_65], true),
+    (&[last_label_of_25, last_target_n], true),
+    (&[last_label_of_25, last_target_n], false),
+    (&[last_label_of_25, first_target_n], true),
+];
+
+/// "8: count above 64."
+fn count_65(described: &mut Described) {
+    let plain = reader::Entry {
+        at: At::Start,
+        label: Vec::new(),
+        duration: 0,
+    };
+    described.entries.resize(65, plain);
+}
+
+/// "11 (label above 24)".
+fn last_label_of_25(described: &mut Described) {
+    if let Some(last) = described.entries.last_mut() {
+        last.label.resize(25, 0);
+    }
+}
+
+/// "10 (target not below the count)".
+fn last_target_n(described: &mut Described) {
+    let target = At::Label(described.entries.len() as u8);
+    if let Some(last) = described.entries.last_mut() {
+        last.at = target;
+    }
+}
+
+fn first_target_n(described: &mut Described) {
+    let target = At::Label(described.entries.len() as u8);
+    if let Some(first) = described.entries.first_mut() {
+        first.at = target;
+    }
+}
+
+/// The refusal and the length: "Every other part of its answer is 0".
+fn numbers(made: Result<usize, u8>) -> (u8, usize) {
+    match made {
+        Ok(len) => (0, len),
+        Err(refusal) => (refusal, 0),
+    }
 }
 
 fn label_text(label: &[u8], out: &mut String) {
@@ -519,8 +594,25 @@ mod tests {
             \x20 entry 3f800000 00000000 0 -\n\
             \x20 write 0 45 1 1\n\
             \x20 write 0 45 1 1\n\
-            \x20 write 15 0 1 1\n";
+            \x20 write 15 0 1 1\n\
+            \x20 spoiled 8 11 10 8 8 11 11 11\n\
+            \x20 rooms 0 ee62f899\n";
         assert_eq!(texts(&[sheet[..44].to_vec(), sheet]), cut + whole);
+    }
+
+    /// Nothing to spoil but the count: the other writes are accepted, where there is room.
+    #[test]
+    fn the_lines_of_an_empty_sheet() {
+        let sheet = vec![1, 0, 0, 0, 0, 0, 0, 0, 0, 0, 0x80, 0x3f];
+        let whole = "sheet 1\n\
+            0 0 0 0 3f800000\n\
+            \x20 timeline I 00000000 3f800000 0 0 0 0 00000000 00000000\n\
+            \x20 write 0 12 1 1\n\
+            \x20 write 0 12 1 1\n\
+            \x20 write 15 0 1 1\n\
+            \x20 spoiled 8 0 0 8 8 0 15 0\n\
+            \x20 rooms 48 427fab75\n";
+        assert_eq!(texts(&[sheet]), whole);
     }
 
     fn entry(at: At, label: &[u8], duration: u32) -> reader::Entry {

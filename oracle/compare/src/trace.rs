@@ -74,11 +74,15 @@ fn next_script<'a>(rest: &mut &'a [u8]) -> Option<Script<'a>> {
     })
 }
 
-pub fn digest_line(text: &[u8]) -> Vec<u8> {
-    let digest = text.iter().fold(0x811c_9dc5u32, |hash, &byte| {
+/// FNV-1a of 32 bits.
+pub fn digest(bytes: &[u8]) -> u32 {
+    bytes.iter().fold(0x811c_9dc5, |hash, &byte| {
         (hash ^ u32::from(byte)).wrapping_mul(0x0100_0193)
-    });
-    format!("{digest:08x}\n").into_bytes()
+    })
+}
+
+pub fn digest_line(text: &[u8]) -> Vec<u8> {
+    format!("{:08x}\n", digest(text)).into_bytes()
 }
 
 /// What is written on a script, its first line left out.
