@@ -1,5 +1,5 @@
 // The jobs: 0 and 1 update in Once, 2 in Forever, 3 in PingPong; 4 and 5 seek to seconds, 6 to shares; 7 adds entries; 8 makes the
-// longest walks that were found.
+// longest walk that is known (walk/specs/Prompt.antt).
 use timeline::timeline::At;
 use timeline::timeline::Timeline;
 use tween::Loop;
@@ -9,7 +9,7 @@ pub const ADD: u8 = 7;
 pub const WALK: u8 = 8;
 
 // Three units in the last place of the second from which the longest walk goes.
-const THREE_UNITS: f32 = 1.1444092e-5;
+const THREE_UNITS: f32 = 0.09375;
 
 fn mode_of(job: u8) -> Loop {
     match job {
@@ -34,11 +34,11 @@ pub(crate) fn step(job: u8, base: f32, turns: u32) -> f32 {
 
 // The second from which the longest walk goes.
 pub(crate) fn late() -> f32 {
-    float32::from_bits(0x4235_57d7)
+    float32::from_bits(0x48ed_ebf1)
 }
 
 // Entries that start one after another and overlap. For the longest walk they are so short that an update by three units in the
-// last place walks over 642 cycles, 385 of them without a completion, before it is known that they outnumber a list of 256.
+// last place goes over 642 cycles, 385 of them without a completion, before it is known that they outnumber a list of 256.
 pub(crate) fn built(job: u8, entries: u8) -> Timeline {
     let mut t = Timeline::new().looping(mode_of(job));
     let mut i = 0u8;
@@ -61,7 +61,7 @@ fn placed(job: u8, at: f32) -> At {
 
 fn lasting(job: u8, at: f32) -> f32 {
     if job == WALK {
-        1.35093146e-8
+        float32::from_bits(0x38ed_eecc)
     } else {
         1.0 + at * 0.01
     }

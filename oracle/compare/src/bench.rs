@@ -80,8 +80,8 @@ fn come_to(job: Job, entries: u32, turns: u32) -> f32 {
             return timeline.duration();
         }
         Job::LongestWalk => {
-            timeline.seek_abs(f32::from_bits(0x4235_57d7));
-            updates(&mut timeline, turns, 1.1444092e-5);
+            timeline.seek_abs(f32::from_bits(0x48ed_ebf1));
+            updates(&mut timeline, turns, 0.09375);
         }
     }
     timeline.elapsed()
@@ -105,7 +105,7 @@ fn built(entries: u32, job: Job) -> Timeline {
     let timeline = Timeline::new().looping(mode);
     (0..entries).fold(timeline, |timeline, index| {
         let (start, duration) = match job {
-            Job::LongestWalk => (0.0, 1.350_931_46e-8),
+            Job::LongestWalk => (0.0, f32::from_bits(0x38ed_eecc)),
             _ => (index as f32 * 0.05, 1.0 + index as f32 * 0.01),
         };
         timeline.add("item", Still { duration }, At::Absolute(start))
