@@ -3,7 +3,7 @@ use Prim.Native.Nat.{ℕ}
 use mathlib.Core.Bool.{Bool, true, false, _&&_, cond}
 use mathlib.Core.List.{List, [], _∷_, _++_, map}
 use lib.Dec.{eqb}
-use lib.Ieee.{Float, nan, binary32, neg, ofBits}
+use lib.Ieee.{Float, nan, binary32, ofBits}
 use Rattle.float32.specs.Helpers.{zeroF, oneF, infinityF, toBits}
 use Rattle.refusal.specs.Refusal.{accepted}
 use Rattle.tween.specs.declared.loop_mode.Loop.the-variants.{Times, Forever, PingPongTimes}
@@ -15,8 +15,7 @@ use Rattle.steps.specs.Times.{twoF, localTime}
 use Rattle.clock.specs.declared.TimelineState.{TimelineState}
 use Rattle.clock.specs.declared.TimelineState.the-variants.{Idle, Playing, Paused, Completed}
 use Rattle.track.specs.Tracks.{live, trackBase, trackRun, progressOf}
-use Rattle.track.specs.Calls.{Room, TrackCall, Looping, SetTimeScale, Play, SeekAbs, Update}
-use Rattle.timeline.specs.declared.timeline.At.{At}
+use Rattle.track.specs.Calls.{Room, Looping, SetTimeScale, Play, SeekAbs, Update}
 use Rattle.timeline.specs.declared.timeline.At.the-variants.{Start, Label as Labeled, Offset}
 use Rattle.timeline.specs.Placements.{empty}
 use Rattle.timeline.specs.Calls.{Call, Add, AddAtLabel, On, Out, silent, step}
