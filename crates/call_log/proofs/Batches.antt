@@ -13,7 +13,7 @@ use Rattle.call_log.specs.declared.Log.{Log}
 use Rattle.call_log.specs.Lines.{lineSize, Wrote}
 use Rattle.call_log.specs.Logs.{callSize}
 use Rattle.call_log.specs.Machine.{nextBytes, nextLog, leastBytes, isNext, noCalls, callThen, batchFrom, batchOf, batchedBy, lined}
-use Rattle.call_log.proofs.Writing.{wrote-then, wrote-none, wrote-all}
+use Rattle.call_log.proofs.Writing.{wrote-length, wrote-then, wrote-none, wrote-all}
 
 -- ---- one call more
 
@@ -93,6 +93,10 @@ pub record SoFar (ended : Bool) (log₀ : Log) (bytes old out : List ℕ) (log :
 module _ (ended : Bool) (log₀ : Log) (bytes old : List ℕ) where
   pub none-yet : SoFar ended log₀ bytes old old log₀ 0 0
   none-yet = record { text = []; wrote = wrote-none 0 old; whole = rw (zero-add, sub-zero) }
+
+  -- the room stays as long as it was
+  pub same-room : {out : List ℕ} {log : Log} {used len : ℕ} → SoFar ended log₀ bytes old out log used len → len ≤ length old → length out ≡ length old
+  same-room s h = wrote-length (s .wrote) h
 
   -- one line more
   pub one-more : (out new : List ℕ) (log : Log) (used len used′ len′ : ℕ) → SoFar ended log₀ bytes old out log used len

@@ -1,15 +1,14 @@
 -- Call by call. What is still to come is the batch of the rest; the measure is the bytes that are left.
 use Prim.Native.Nat.{_+_, _-_, _≤_, _<_}
-use mathlib.Core.Path.{_≡_, refl, ap, _∙_}
+use mathlib.Core.Path.{_≡_, refl, ap}
 use native.Mathlib.Omega.{arith}
 use borrow.Author.Tests.{leb-true, leb-false}
 use lib.ListN.{length, drop, length-take, length-drop}
-use Rattle.sheet_format.proofs.Stores.{length-over}
 use Rattle.call_log.specs.declared.Logged.{Logged}
 use Rattle.call_log.specs.Lines.{lineSize}
 use Rattle.call_log.specs.Logs.{callSize}
 use Rattle.call_log.specs.Machine.{nextBytes, loggedBy}
-use Rattle.call_log.proofs.Batches.{part-rest, some-bytes, is-next, no-bytes, no-room, SoFar, none-yet, one-more, no-more}
+use Rattle.call_log.proofs.Batches.{part-rest, some-bytes, is-next, no-bytes, no-room, SoFar, none-yet, same-room, one-more, no-more}
 use borrow.Author.Needs.{needs}
 use Rattle.call_log.proofs.batch.Statement.{statement}
 use Rattle.call_log.proofs.batch.Tie as tie
@@ -79,10 +78,9 @@ loop-again c =
     let line : next .result .len ≡ length (nextBytes (loop .log) rest) = ap (λ (r : Logged). r .len) answer in
     let few = next .ensures .0 .1 in
     let room : loop .len + lineSize ≤ length (loop .out) = omega (arith, leb-true) in
-    let same = ap length text ∙ length-over (nextBytes (loop .log) rest) (loop .len) (loop .out) (omega arith) in
     let more = one-more (args .ended) (args .log) (args .bytes .now) (args .out .now) (loop .out) _ (loop .log) (loop .used) (loop .len) (c .behind .result) (loop .len + next .result .len) (loop .inv .3)
     (is-next (args .ended) rest (length (args .out .now) - loop .len) (omega arith) (omega arith)) text (ap (loop .len +_) line) (omega arith) behind in
-    (omega arith, omega arith, same ∙ loop .inv .2, rw (ap (λ (r : Logged). r .log) answer) more)
+    (omega arith, omega arith, same-room (args .ended) (args .log) (args .bytes .now) (args .out .now) more (omega arith), rw (ap (λ (r : Logged). r .log) answer) more)
 
 same-length : tie.Need-same-length Inv-loop μ-loop
 same-length c = c .before .before .loop .inv .2

@@ -49,7 +49,7 @@ called-requires c κs =
     let empty = c .before .before .before .before .before .before .before .empty-list in
     let count = list-count (start .args .log .track) (start .args .rest .now) (made .result) (empty .result) (made .last .1 .1 .0) (empty .ensures) (made .ensures) in
     let size = list-size (start .args .log .track) (start .args .rest .now) (made .result) (empty .result) (made .last .1 .1 .0) (empty .ensures) (made .ensures) in
-    (count, omega arith, start .pre)
+    (count, omega arith, omega (arith, start .pre))
 
 sub-t13 : tie.Need-sub-t13
 sub-t13 c = omega (arith, c .before .before .called .ensures .0 .ends)
