@@ -61,6 +61,7 @@ module _ (ended : Bool) where
       let l = length-drop callSize bytes in
       rw (enough k m (nextLog log bytes) (drop callSize bytes) (room - length (nextBytes log bytes)) (omega arith) (omega arith))
 
+  -- a call that is made comes first, and where none is made there are none
   module _ (log : Log) (bytes : List ℕ) (room : ℕ) where
     pub more-calls : isNext ended bytes room ≡ true
         → batchOf ended log bytes room ≡ callThen (length (take callSize bytes)) (nextBytes log bytes) (batchOf ended (nextLog log bytes) (drop callSize bytes) (room - length (nextBytes log bytes)))
@@ -91,6 +92,7 @@ pub record SoFar (ended : Bool) (log₀ : Log) (bytes old out : List ℕ) (log :
   pub whole : batchOf ended log₀ bytes (length old) ≡ callThen used text (batchOf ended log (drop used bytes) (length old - len))
 
 module _ (ended : Bool) (log₀ : Log) (bytes old : List ℕ) where
+  -- nothing is written
   pub none-yet : SoFar ended log₀ bytes old old log₀ 0 0
   none-yet = record { text = []; wrote = wrote-none 0 old; whole = rw (zero-add, sub-zero) }
 

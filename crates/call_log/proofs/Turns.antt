@@ -43,9 +43,8 @@ next-comes log (b ∷ rest) h =
 
 -- ---- a batch
 
--- a call that is made is the same with all that is still unread behind it
 module _ (log : Log) (bytes unread : List ℕ) where
-  -- of a call, nothing, its line and the log after it depend on what is behind it
+  -- the next call is the same with what is unread behind the bytes: its line, the log after it, and the rest
   pub record Same : Type 0 where
     pub line : nextBytes log (bytes ++ unread) ≡ nextBytes log bytes
     pub after : nextLog log (bytes ++ unread) ≡ nextLog log bytes
@@ -96,6 +95,7 @@ goes-on ended log bytes room h i = rw (more-calls ended log bytes room (is-next 
 
 -- ---- turns
 
+-- a list of no length
 nothing : (xs : List ℕ) → eqb (length xs) 0 ≡ true → xs ≡ []
 nothing xs e = drop-of-length-le xs {i = 0} (omega (arith, eqb-true (length xs) 0 e))
 
@@ -109,6 +109,7 @@ turn-keeps d t =
     let keeps = batch-keeps (t .asks && eqb (length unread) 0) unread (λ e. nothing unread (and-true (t .asks) (eqb (length unread) 0) e .1)) (length bytes) (d .log) bytes (t .room) in
     rw append-assoc (ap (d .text ++_) (keeps ∙ ap (toCome (d .log)) all))
 
+-- nor do turns
 pub turns-keep : (turns : List Turn) (d : Door) → inAll (foldl turned d turns) ≡ inAll d
 turns-keep [] d = refl
 turns-keep (t ∷ turns) d = turns-keep turns (turned d t) ∙ turn-keeps d t

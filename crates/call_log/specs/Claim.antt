@@ -26,8 +26,8 @@ FrontOnly =
 abbrev pub inAll : Door → List ℕ
 inAll d = d .text ++ toCome (d .log) (d .kept ++ d .unread)
 
--- However the input is cut into pieces, and the room into turns: what was written, and what is still to come, is the log of the whole
--- input. So what stands there at any time is its beginning.
+-- However the input is cut into pieces and the room into turns (a turn may read nothing, and have no room): what was written, and then
+-- what is still to come, is the log of the whole input. So what stands there at any time is its beginning.
 abbrev pub NothingLost : Type 0
 NothingLost = (input : List ℕ) (turns : List Turn) → length input < lastNumber → inAll (afterTurns input turns) ≡ logBytes input
 

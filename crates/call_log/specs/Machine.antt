@@ -93,7 +93,7 @@ lined text old = over text 0 old
 
 -- ---- `batch`
 
--- how many bytes have to be there for a call: where the input ends behind them, one is enough, and fewer than a call has are no call
+-- how many bytes have to be there: those of a call; where the input ends behind them one is enough, since what is left over has its line
 abbrev pub leastBytes : Bool → ℕ
 leastBytes ended = cond ended 1 callSize
 
@@ -101,7 +101,7 @@ leastBytes ended = cond ended 1 callSize
 abbrev pub isNext : Bool → List ℕ → ℕ → Bool
 isNext ended bytes room = leb (leastBytes ended) (length bytes) && leb lineSize room
 
--- what calls come to: how many bytes it used, its lines, and the log then
+-- what calls come to: how many bytes they used, their lines, and the log then
 pub record Calls : Type 0 where
   pub used : ℕ
   pub text : List ℕ
@@ -166,13 +166,13 @@ doorOf input =
     let front = take (frontSize input) input in
     record { log = openLog front; kept = []; unread = drop (frontSize input) input; text = shown (openLine front) }
 
--- A turn of the program: how many bytes it reads at most, whether it asks for the end of the input, and how much room its lines have.
+-- A turn of the program: how many bytes it reads at most, whether it asks if the input has ended, and how much room its lines have.
 pub record Turn : Type 0 where
   pub count : ℕ
   pub asks : Bool
   pub room : ℕ
 
--- the batch of a turn: the input has ended where it asks, and nothing is unread then
+-- the batch of a turn: it takes the input for ended where it asks and nothing is unread
 abbrev pub turnBatch : Door → Turn → Calls
 turnBatch d t =
     batchOf (t .asks && eqb (length (drop (t .count) (d .unread))) 0) (d .log) (d .kept ++ take (t .count) (d .unread)) (t .room)

@@ -138,8 +138,8 @@ fn turn(door: Door, chunk: &mut [u8], out: &mut [u8]) -> Door {
     batch(log, chunk, 0, end, got == 0, out)
 }
 
-// Makes the calls of a part of what was read, as many as the lines have room, and writes their lines. At the end of the input that is
-// all.
+// Makes the calls of a part of what was read, as many as have room for their lines, and writes the lines. At the end of the input no
+// more than one is left: that is all.
 fn batch(log: Log, chunk: &[u8], from: usize, to: usize, ended: bool, out: &mut [u8]) -> Door
     requires { ⌜ (from ≤ to) × (to ≤ length (now chunk)) ⌝ }
 {
@@ -195,8 +195,9 @@ fn write(bytes: &[u8], len: usize) -> bool {
     written
 }
 
-// ---- what standard error gets
+// ---- what standard error gets: the launcher goes by how a line begins
 
+// The log is whole: it is the sheet's line.
 fn refused(number: u8) {
     io::write_all(STDERR_FILENO, b"door_log: the sheet is refused by ");
     io::print_decimal(STDERR_FILENO, number as u64);
@@ -206,6 +207,7 @@ fn refused(number: u8) {
     );
 }
 
+// A read failed.
 fn not_read() {
     io::write_all(
         STDERR_FILENO,
@@ -213,6 +215,7 @@ fn not_read() {
     );
 }
 
+// A write failed.
 fn not_written() {
     io::write_all(
         STDERR_FILENO,
