@@ -1,21 +1,22 @@
 -- The claim.
 use Prim.Native.Nat.{ℕ, _+_, _<_}
-use mathlib.Core.Path.{_≡_, refl}
+use mathlib.Core.Path.{_≡_, refl, sym, _∙_}
 use mathlib.Core.Bool.{Bool, true, false}
-use mathlib.Core.List.{List, _++_}
+use mathlib.Core.List.{List, _++_, append-nil}
 use native.Mathlib.Omega.{arith}
 use borrow.Author.Tests.{eqb-true, eqb-false}
 use lib.Dec.{eqb}
-use lib.ListN.{length, drop, length-drop}
+use lib.ListN.{length, take, drop, length-drop}
 use Rattle.sheet_format.specs.Words.{word}
 use Rattle.call_log.specs.Lines.{shown, shownAll}
 use Rattle.call_log.specs.Logs.{isCut, scriptIn, trackIn, sheetNumber, afterCalls, logOf, logBytes}
-use Rattle.call_log.specs.Machine.{openLine, openLog, runFrom, frontSize, printed}
-use Rattle.call_log.specs.Claim.{Prints, Claim}
+use Rattle.call_log.specs.Machine.{openLine, openLog, runFrom, frontSize, printed, doorOf, afterTurns}
+use Rattle.call_log.specs.Claim.{Prints, inAll, NothingLost, EndsWhole, Claim}
 use Rattle.call_log.proofs.Fronts.{front-only}
 use Rattle.call_log.proofs.Opening.{uncut, number-cut, open-refused, open-accepted, front-size, opens-front}
 use Rattle.call_log.proofs.Worked.{nan-shown, worked}
 use Rattle.call_log.proofs.Runs.{closed-runs, open-runs}
+use Rattle.call_log.proofs.Turns.{enough-runs, goes-on, turns-keep}
 
 -- an accepted sheet is not cut
 whole : (input : List ℕ) → sheetNumber input ≡ 0 → isCut input ≡ false
@@ -45,5 +46,28 @@ prints input h =
     let o = opens-front input in
     rw (o .0, o .1) (prints-as (eqb (sheetNumber input) 0) input refl h)
 
+-- the door before the first call has all of the log to come
+opens-all : (input : List ℕ) → inAll (doorOf input) ≡ printed input
+unfolding printed doorOf
+opens-all input =
+    let l = length-drop (frontSize input) input in
+    rw (enough-runs (length (drop (frontSize input) input)) (length input) (openLog (take (frontSize input) input)) (drop (frontSize input) input) (omega arith) (omega arith))
+
+nothing-lost : NothingLost
+nothing-lost input turns h = turns-keep turns (doorOf input) ∙ opens-all input ∙ prints input h
+
+ends-whole : EndsWhole
+unfolding runFrom
+ends-whole input turns h k u = sym (append-nil (afterTurns input turns .text)) ∙ rw (k, u) at (nothing-lost input turns h)
+
 pub claim : Claim
-claim = record { prints = prints; front-only = front-only; nan-shown = nan-shown; worked = worked }
+claim =
+    record {
+      prints = prints;
+      front-only = front-only;
+      nothing-lost = nothing-lost;
+      ends-whole = ends-whole;
+      goes-on = goes-on;
+      nan-shown = nan-shown;
+      worked = worked;
+    }

@@ -2,6 +2,8 @@
 pub mod Writing
 pub mod Making
 pub mod Fronts
+pub mod Batches
+pub mod Turns
 pub mod Opening
 pub mod Runs
 pub mod Worked

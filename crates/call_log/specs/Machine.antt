@@ -1,9 +1,9 @@
 -- What the functions of this crate answer, and the log that comes of calling them in turn, as the program does. Definitions only.
-use Prim.Native.Nat.{ℕ, zero, suc, _+_}
+use Prim.Native.Nat.{ℕ, zero, suc, _+_, _-_}
 use mathlib.Core.Path.{_≡_}
-use mathlib.Core.Bool.{Bool, true, false, cond, not, _||_}
-use mathlib.Core.List.{List, [], _∷_, _++_}
-use lib.Dec.{eqb, ltb}
+use mathlib.Core.Bool.{Bool, true, false, cond, not, _||_, _&&_}
+use mathlib.Core.List.{List, [], _∷_, _++_, foldl}
+use lib.Dec.{eqb, ltb, leb}
 use lib.ListN.{length, take, drop}
 use Rattle.refusal.specs.Refusal.{accepted}
 use Rattle.digits.specs.Digits.{over}
@@ -16,7 +16,8 @@ use Rattle.call_log.specs.declared.calls.Outcome.{Outcome}
 use Rattle.call_log.specs.declared.Log.{Log}
 use Rattle.call_log.specs.declared.Opened.{Opened}
 use Rattle.call_log.specs.declared.Logged.{Logged}
-use Rattle.call_log.specs.Lines.{Line, Refused, shown, shownAll}
+use Rattle.call_log.specs.declared.Batched.{Batched}
+use Rattle.call_log.specs.Lines.{Line, Refused, shown, shownAll, lineSize}
 use Rattle.call_log.specs.Logs.{maxSheet, lengthSize, sheetNumber, sheetLine, trackIn, callSize, outcomeAt, callLine}
 
 -- ---- a call
@@ -90,6 +91,46 @@ loggedBy log rest = record { len = length (nextBytes log rest); log = nextLog lo
 abbrev pub lined : List ℕ → List ℕ → List ℕ
 lined text old = over text 0 old
 
+-- ---- `batch`
+
+-- how many bytes have to be there: those of a call; where the input ends behind them one is enough, since what is left over has its line
+abbrev pub leastBytes : Bool → ℕ
+leastBytes ended = cond ended 1 callSize
+
+-- a call is made: its bytes are there, and room for its line
+abbrev pub isNext : Bool → List ℕ → ℕ → Bool
+isNext ended bytes room = leb (leastBytes ended) (length bytes) && leb lineSize room
+
+-- what calls come to: how many bytes they used, their lines, and the log then
+pub record Calls : Type 0 where
+  pub used : ℕ
+  pub text : List ℕ
+  pub log : Log
+
+-- no calls
+abbrev pub noCalls : Log → Calls
+noCalls log = record { used = 0; text = []; log = log }
+
+-- so many bytes used and this text, and then these calls
+abbrev pub callThen : ℕ → List ℕ → Calls → Calls
+callThen used text c = record { used = used + c .used; text = text ++ c .text; log = c .log }
+
+-- `next`, call by call, as long as one is made; a log whose sheet was refused uses the bytes up. The first number is fuel
+unfoldable pub batchFrom : ℕ → Bool → Log → List ℕ → ℕ → Calls
+batchFrom zero ended log bytes room = noCalls log
+batchFrom (suc k) ended log bytes room =
+    cond (isNext ended bytes room)
+    (callThen (length (take callSize bytes)) (nextBytes log bytes) (batchFrom k ended (nextLog log bytes) (drop callSize bytes) (room - length (nextBytes log bytes))))
+    (noCalls log)
+
+-- the calls that the bytes hold and whose lines have room
+abbrev pub batchOf : Bool → Log → List ℕ → ℕ → Calls
+batchOf ended log bytes room = batchFrom (length bytes) ended log bytes room
+
+-- the answer of `batch`
+abbrev pub batchedBy : Calls → Batched
+batchedBy c = record { used = c .used; len = length (c .text); log = c .log }
+
 -- ---- the program
 
 -- `next`, call by call, until nothing is left of the script; the first number is fuel
@@ -107,3 +148,46 @@ unfoldable pub printed : List ℕ → List ℕ
 printed input =
     let front = take (frontSize input) input in
     shown (openLine front) ++ runFrom (length input) (openLog front) (drop (frontSize input) input)
+
+-- all that is still to be written of these bytes
+abbrev pub toCome : Log → List ℕ → List ℕ
+toCome log rest = runFrom (length rest) log rest
+
+-- Where the program stands: the log, the bytes that it read and did not use, those that it has not read, and all that it wrote.
+pub record Door : Type 0 where
+  pub log : Log
+  pub kept : List ℕ
+  pub unread : List ℕ
+  pub text : List ℕ
+
+-- before the first call
+unfoldable pub doorOf : List ℕ → Door
+doorOf input =
+    let front = take (frontSize input) input in
+    record { log = openLog front; kept = []; unread = drop (frontSize input) input; text = shown (openLine front) }
+
+-- A turn of the program: how many bytes it reads at most, whether it asks if the input has ended, and how much room its lines have.
+pub record Turn : Type 0 where
+  pub count : ℕ
+  pub asks : Bool
+  pub room : ℕ
+
+-- the batch of a turn: it takes the input for ended where it asks and nothing is unread
+abbrev pub turnBatch : Door → Turn → Calls
+turnBatch d t =
+    batchOf (t .asks && eqb (length (drop (t .count) (d .unread))) 0) (d .log) (d .kept ++ take (t .count) (d .unread)) (t .room)
+
+-- reads, makes a batch, and writes its lines
+unfoldable pub turned : Door → Turn → Door
+turned d t =
+    let b = turnBatch d t in
+    record {
+      log = b .log;
+      kept = drop (b .used) (d .kept ++ take (t .count) (d .unread));
+      unread = drop (t .count) (d .unread);
+      text = d .text ++ b .text;
+    }
+
+-- where the program stands after turns
+abbrev pub afterTurns : List ℕ → List Turn → Door
+afterTurns input turns = foldl turned (doorOf input) turns

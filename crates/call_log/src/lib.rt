@@ -12,11 +12,12 @@ use refusal::SHEET_LENGTH;
 use track::track::Track;
 ghost use mathlib.Core.Path.{_≡_};
 ghost use Prim.Native.Nat.{_+_, _<_, _≤_};
-ghost use lib.ListN.{length, drop};
+ghost use lib.ListN.{length, take, drop};
+ghost use Rattle.digits.specs.Digits.{over};
 ghost use Rattle.sheet_format.specs.Words.{word};
-ghost use Rattle.call_log.specs.Lines.{Refused, shown};
+ghost use Rattle.call_log.specs.Lines.{Refused, shown, lineSize};
 ghost use Rattle.call_log.specs.Logs.{isCut, callSize, listSize, outcomeAt};
-ghost use Rattle.call_log.specs.Machine.{Made, sheetRoom, closedLog, openLine, openedBy, counted, nextBytes, loggedBy, lined};
+ghost use Rattle.call_log.specs.Machine.{Made, sheetRoom, closedLog, openLine, openedBy, counted, nextBytes, loggedBy, lined, leastBytes, batchOf, batchedBy};
 ghost use Rattle.call_log.specs.Claim.{Claim};
 
 // The longest sheet: 64 entries, with labels of 24 bytes.
@@ -39,10 +40,17 @@ pub struct Opened {
     pub log: Log,
 }
 
-// The answer of next: how long the line is, and the log.
-pub struct Logged {
+// The answer of batch: how many bytes it used, how long the lines are, and the log.
+pub struct Batched {
+    pub used: usize,
     pub len: usize,
     pub log: Log,
+}
+
+// The answer of next: how long the line is, and the log.
+struct Logged {
+    len: usize,
+    log: Log,
 }
 
 // The u16 at a place.
@@ -128,11 +136,51 @@ fn refuse(refusal: u8, line: &mut [u8; LINE]) -> Opened
     Opened { len, refusal, log }
 }
 
-// Makes the call at the front of what is left of the script, and writes its line. Fewer bytes than a call has are no call, and none
-// have no line; nor has a log whose sheet was refused.
-pub fn next(log: Log, rest: &[u8], line: &mut [u8; LINE]) -> Logged
-    ensures { λ r. ⌜ r ≡ loggedBy log (now (rest .entry)) ⌝ }
-    ensures { λ _. ⌜ now (line .exit) ≡ lined (nextBytes log (now (rest .entry))) (now (line .entry)) ⌝ }
+// Makes the calls that the bytes hold, one after the other, as long as room for a line is left, and writes their lines to the front.
+// Where the input ends behind the bytes, 1 to 4 that are left over are no call and have a line, too. A log whose sheet was refused
+// uses the bytes up.
+pub fn batch(log: Log, bytes: &[u8], ended: bool, out: &mut [u8]) -> Batched
+    ensures { λ r. ⌜ r ≡ batchedBy (batchOf ended log (now (bytes .entry)) (length (now (out .entry)))) ⌝ }
+    ensures { λ _. ⌜ now (out .exit) ≡ lined (batchOf ended log (now (bytes .entry)) (length (now (out .entry))) .text) (now (out .entry)) ⌝ }
+{
+    let least = least_bytes(ended);
+    let mut log = log;
+    let mut used = 0usize;
+    let mut len = 0usize;
+    while least <= bytes.len() - used && LINE <= out.len() - len {
+        let logged = next(log, &bytes[used..], out, len);
+        log = logged.log;
+        len += logged.len;
+        used = behind(used, bytes);
+    }
+    Batched { used, len, log }
+}
+
+// How many bytes have to be there for a call.
+fn least_bytes(ended: bool) -> usize
+    ensures { λ r. ⌜ r ≡ leastBytes ended ⌝ }
+{
+    if ended { 1 } else { CALL }
+}
+
+// The place behind the call at a place, or the end of the bytes.
+fn behind(at: usize, bytes: &[u8]) -> usize
+    requires { ⌜ at ≤ length (now bytes) ⌝ }
+    ensures { λ r. ⌜ r ≡ at + length (take callSize (drop at (now (bytes .entry)))) ⌝ }
+{
+    if CALL <= bytes.len() - at {
+        at + CALL
+    } else {
+        bytes.len()
+    }
+}
+
+// Makes the call at the front of what is left of the script, and writes its line at a place. Fewer bytes than a call has are no
+// call, and none have no line; nor has a log whose sheet was refused.
+fn next(log: Log, rest: &[u8], out: &mut [u8], at: usize) -> Logged
+    requires { ⌜ at + lineSize ≤ length (now out) ⌝ }
+    ensures { λ r. ⌜ (r ≡ loggedBy log (now (rest .entry))) × (r .len ≤ lineSize) ⌝ }
+    ensures { λ _. ⌜ now (out .exit) ≡ over (nextBytes log (now (rest .entry))) at (now (out .entry)) ⌝ }
 {
     if !log.logging {
         return Logged { len: 0, log };
@@ -145,13 +193,13 @@ pub fn next(log: Log, rest: &[u8], line: &mut [u8; LINE]) -> Logged
     let made = made_at(track, rest, &mut list);
     let number = counted(log.number);
     let after = made.track;
-    let len = lines::called(line, number, after, made.refusal, &list, made.listed);
+    let end = lines::called(out, at, number, after, made.refusal, &list, made.listed);
     let log = Log {
         number,
         logging: true,
         track: after,
     };
-    Logged { len, log }
+    Logged { len: end - at, log }
 }
 
 // The list that an update is lent.

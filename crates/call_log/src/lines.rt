@@ -66,22 +66,23 @@ fn put_list(line: &mut [u8], start: usize, list: &[u8], n: usize) -> usize
     at
 }
 
-// The line of a call.
+// The line of a call, from a place on.
 pub(crate) fn called(
     line: &mut [u8],
+    start: usize,
     number: usize,
     track: Track,
     refusal: u8,
     list: &[u8],
     listed: usize,
 ) -> usize
-    requires { ⌜ (listed ≤ listSize) × (listed ≤ length (now list)) × (lineSize ≤ length (now line)) ⌝ }
-    ensures { λ r. ⌜ Wrote (shown (Called number (letterOf (track .clock .state)) (toBits (track .clock .elapsed)) refusal (take listed (now (list .entry))))) 0 (now (line .entry)) (now (line .exit)) r ⌝ }
+    requires { ⌜ (listed ≤ listSize) × (listed ≤ length (now list)) × (start + lineSize ≤ length (now line)) ⌝ }
+    ensures { λ r. ⌜ Wrote (shown (Called number (letterOf (track .clock .state)) (toBits (track .clock .elapsed)) refusal (take listed (now (list .entry))))) start (now (line .entry)) (now (line .exit)) r × (r ≤ start + lineSize) ⌝ }
 {
     let clock = track.clock;
     let state = clock.state;
     let elapsed = clock.elapsed;
-    let at = put_decimal(line, 0, number);
+    let at = put_decimal(line, start, number);
     let at = put_letter(line, at, state_letter(state));
     let at = put_bits(line, at, elapsed);
     let at = put_number(line, at, refusal as usize);

@@ -1,13 +1,16 @@
 // The door log: standard input has a sheet and a script, standard output gets the log (docs/FORMATS.md). Crate call_log makes the
-// lines; they are written as the calls come, in bounded memory.
+// lines; they are written as the calls come, in bounded memory. Where the log is not whole, standard error has a line that says why.
 use call_log::CALL;
 use call_log::LINE;
 use call_log::Log;
 use call_log::MAX_SHEET;
+use libc::STDERR_FILENO;
 use libc::STDIN_FILENO;
 use libc::STDOUT_FILENO;
 ghost use Prim.Native.Nat.{_+_, _≤_};
-ghost use lib.ListN.{length};
+ghost use mathlib.Core.Path.{_≡_};
+ghost use mathlib.Core.List.{_++_};
+ghost use lib.ListN.{length, take, drop};
 
 // The longest sheet, and the two bytes before it that say how long it is.
 const FRONT: usize = 2_574;
@@ -15,13 +18,19 @@ const FRONT: usize = 2_574;
 // How much of the script is read at once.
 const CHUNK: usize = 65_536;
 
-// How much of the log is kept back at most.
+// How much of the log is written at once.
 const OUT: usize = 65_536;
 
-// Where the program stands: how many bytes of a call it has, how many bytes of the log it keeps back, and the log.
+// How many bytes were read, and whether the last read failed.
+struct Got {
+    count: usize,
+    failed: bool,
+}
+
+// Where the program stands: the part of what was read that is not used yet, whether there is more to do, and the log.
 struct Door {
-    left: usize,
-    kept: usize,
+    from: usize,
+    to: usize,
     more: bool,
     log: Log,
 }
@@ -29,19 +38,23 @@ struct Door {
 fn main() {
     let mut front = [0u8; FRONT];
     let mut line = [0u8; LINE];
-    let n = read_front(&mut front);
+    let got = read_front(&mut front);
+    if got.failed {
+        not_read();
+        return;
+    }
+    let n = got.count;
     let opened = call_log::open(&front[..n], &mut line);
     let written = write_line(&line, opened.len);
-    if written && opened.refusal == refusal::ACCEPTED {
-        let log = opened.log;
-        script(log, &mut line);
+    if !written {
+        return;
     }
-}
-
-// Writes the first line.
-fn write_line(line: &[u8; LINE], len: usize) -> bool {
-    let bytes: &[u8] = line;
-    write(bytes, len)
+    if opened.refusal != refusal::ACCEPTED {
+        refused(opened.refusal);
+        return;
+    }
+    let log = opened.log;
+    script(log);
 }
 
 // A number above `top` counts as `top`.
@@ -51,89 +64,103 @@ fn least(n: usize, top: usize) -> usize
     if n < top { n } else { top }
 }
 
-// Reads the two bytes that say how long the sheet is, or as many as there are.
-fn read_head(front: &mut [u8]) -> usize
-    requires { ⌜ 2 ≤ length (now front) ⌝ }
-    ensures { λ r. ⌜ (r ≤ length (now (front .exit))) × (r ≤ 2) ⌝ }
+// Reads the two bytes that say how long the sheet is, and the sheet, or as much as there is.
+fn read_front(front: &mut [u8]) -> Got
+    requires { ⌜ 2574 ≤ length (now front) ⌝ }
+    ensures { λ r. ⌜ r .count ≤ length (now (front .exit)) ⌝ }
 {
-    let got = io::read_full(STDIN_FILENO, &mut front[..2]);
-    least(got, 2)
+    let head = read_to(front, 0, 2);
+    if head.failed {
+        return head;
+    }
+    let n = head.count;
+    let len = least(call_log::sheet_len(&front[..n]), MAX_SHEET);
+    read_to(front, n, n + len)
 }
 
-// Reads these and the sheet, or as much as there is.
-fn read_front(front: &mut [u8]) -> usize
-    requires { ⌜ 2574 ≤ length (now front) ⌝ }
-    ensures { λ r. ⌜ r ≤ length (now (front .exit)) ⌝ }
+// Reads until the bytes are there to this place, the input ends, or a read fails.
+fn read_to(bytes: &mut [u8], from: usize, to: usize) -> Got
+    requires { ⌜ (from ≤ to) × (to ≤ length (now bytes)) ⌝ }
+    ensures { λ r. ⌜ r .count ≤ to ⌝ }
 {
-    let got = read_head(front);
-    let len = least(call_log::sheet_len(&front[..got]), MAX_SHEET);
-    let end = got + len;
-    let more = io::read_full(STDIN_FILENO, &mut front[got..end]);
-    got + least(more, len)
+    let mut count = from;
+    while count < to {
+        let got = libc::read(STDIN_FILENO, &mut bytes[count..to]);
+        let more = least(io::count(got, bytes), to - count);
+        if more == 0 {
+            return Got {
+                count,
+                failed: got < 0,
+            };
+        }
+        count += more;
+    }
+    Got {
+        count,
+        failed: false,
+    }
 }
 
 // The calls, to the end of the input. A proved loop has to end, and nothing says that the input does: so it counts its turns down,
 // from a number that no run uses up.
-fn script(log: Log, line: &mut [u8; LINE]) {
+fn script(log: Log) {
     let mut chunk = [0u8; CHUNK];
     let mut out = [0u8; OUT];
     let mut door = Door {
-        left: 0,
-        kept: 0,
+        from: 0,
+        to: 0,
         more: true,
         log,
     };
     let mut turns = u64::MAX;
     while turns > 0 && door.more {
-        door = turn(door, &mut chunk, line, &mut out);
+        door = turn(door, &mut chunk, &mut out);
         turns -= 1;
     }
 }
 
-// Reads once, makes the calls that are whole, and writes their lines. At the end of the input, what is left is no call.
-fn turn(door: Door, chunk: &mut [u8], line: &mut [u8; LINE], out: &mut [u8]) -> Door
-    requires { ⌜ (5 ≤ length (now chunk)) × (1060 ≤ length (now out)) ⌝ }
-{
-    let left = least(door.left, CALL);
-    let got = read_on(chunk, left);
-    let n = left + got;
-    if got == 0 {
-        let ended = last(door, &chunk[..n], line, out);
-        return flushed(ended, out, 0, false);
+// Makes the calls that are there, a batch at a time; reads on where none is.
+fn turn(door: Door, chunk: &mut [u8], out: &mut [u8]) -> Door {
+    let log = door.log;
+    let to = least(door.to, chunk.len());
+    let from = least(door.from, to);
+    let left = to - from;
+    if CALL <= left {
+        return batch(log, chunk, from, to, false, out);
     }
-    let called = calls(door, &chunk[..n], line, out);
-    let rest = n % CALL;
-    shift(chunk, n - rest, rest);
-    flushed(called, out, rest, true)
-}
-
-// Reads once, behind what is left.
-fn read_on(chunk: &mut [u8], left: usize) -> usize
-    requires { ⌜ left ≤ length (now chunk) ⌝ }
-    ensures { λ r. ⌜ left + r ≤ length (now (chunk .exit)) ⌝ }
-{
+    shift(chunk, from, left);
     let got = libc::read(STDIN_FILENO, &mut chunk[left..]);
-    let count = io::count(got, chunk);
-    least(count, chunk.len() - left)
+    if got < 0 {
+        not_read();
+        return stopped(log);
+    }
+    let end = left + least(io::count(got, chunk), chunk.len() - left);
+    batch(log, chunk, 0, end, got == 0, out)
 }
 
-// Makes the calls that are whole. The log is a local of its own, so that it is not copied more often than a call needs.
-fn calls(door: Door, bytes: &[u8], line: &mut [u8; LINE], out: &mut [u8]) -> Door
-    requires { ⌜ 1060 ≤ length (now out) ⌝ }
+// Makes the calls of a part of what was read, as many as have room for their lines, and writes the lines. At the end of the input no
+// more than one is left: that is all.
+fn batch(log: Log, chunk: &[u8], from: usize, to: usize, ended: bool, out: &mut [u8]) -> Door
+    requires { ⌜ (from ≤ to) × (to ≤ length (now chunk)) ⌝ }
 {
-    let mut log = door.log;
-    let mut kept = door.kept;
-    let mut i = 0usize;
-    while CALL <= bytes.len() - i {
-        let logged = call_log::next(log, &bytes[i..], line);
-        kept = keep(line, logged.len, out, kept);
-        log = logged.log;
-        i += CALL;
-    }
+    let batched = call_log::batch(log, &chunk[from..to], ended, out);
+    let used = least(batched.used, to - from);
+    let written = write(out, batched.len);
+    let log = batched.log;
     Door {
-        left: 0,
-        kept,
-        more: true,
+        from: from + used,
+        to,
+        more: written && !ended,
+        log,
+    }
+}
+
+// Nothing more is done.
+fn stopped(log: Log) -> Door {
+    Door {
+        from: 0,
+        to: 0,
+        more: false,
         log,
     }
 }
@@ -141,6 +168,7 @@ fn calls(door: Door, bytes: &[u8], line: &mut [u8; LINE], out: &mut [u8]) -> Doo
 // Moves `count` bytes from `from` on to the front.
 fn shift(chunk: &mut [u8], from: usize, count: usize)
     requires { ⌜ from + count ≤ length (now chunk) ⌝ }
+    ensures { λ _. ⌜ now (chunk .exit) ≡ take count (drop from (now (chunk .entry))) ++ drop count (now (chunk .entry)) ⌝ }
 {
     let mut i = 0usize;
     while i < count {
@@ -150,70 +178,47 @@ fn shift(chunk: &mut [u8], from: usize, count: usize)
     }
 }
 
-// What is left at the end has a line, if it is anything.
-fn last(door: Door, rest: &[u8], line: &mut [u8; LINE], out: &mut [u8]) -> Door
-    requires { ⌜ 1060 ≤ length (now out) ⌝ }
-{
-    let log = door.log;
-    let logged = call_log::next(log, rest, line);
-    let kept = keep(line, logged.len, out, door.kept);
-    let log = logged.log;
-    Door {
-        left: 0,
-        kept,
-        more: false,
-        log,
+// Writes the first line.
+fn write_line(line: &[u8; LINE], len: usize) -> bool {
+    let bytes: &[u8] = line;
+    write(bytes, len)
+}
+
+// Writes the first `len` bytes, and says whether it could. After the first failure nothing more is written: what stands there is the
+// log's beginning.
+fn write(bytes: &[u8], len: usize) -> bool {
+    let n = least(len, bytes.len());
+    let written = io::write_all(STDOUT_FILENO, &bytes[..n]);
+    if !written {
+        not_written();
     }
+    written
 }
 
-// Writes what is kept, if a line may not have room behind it.
-fn room(out: &[u8], kept: usize) -> usize
-    requires { ⌜ 1060 ≤ length (now out) ⌝ }
-    ensures { λ r. ⌜ r + 1060 ≤ length (now (out .entry)) ⌝ }
-{
-    if kept <= out.len() - LINE {
-        return kept;
-    }
-    write(out, kept);
-    0
+// ---- what standard error gets: the launcher goes by how a line begins
+
+// The log is whole: it is the sheet's line.
+fn refused(number: u8) {
+    io::write_all(STDERR_FILENO, b"door_log: the sheet is refused by ");
+    io::print_decimal(STDERR_FILENO, number as u64);
+    io::write_all(
+        STDERR_FILENO,
+        b"; docs/FORMATS.md says what the number means\n",
+    );
 }
 
-// Writes what is kept, and says whether it could.
-fn write(out: &[u8], kept: usize) -> bool {
-    let n = least(kept, out.len());
-    io::write_all(STDOUT_FILENO, &out[..n])
+// A read failed.
+fn not_read() {
+    io::write_all(
+        STDERR_FILENO,
+        b"door_log: reading failed; the log is not whole\n",
+    );
 }
 
-// Keeps a line, and says how much is kept then.
-fn keep(line: &[u8; LINE], len: usize, out: &mut [u8], kept: usize) -> usize
-    requires { ⌜ 1060 ≤ length (now out) ⌝ }
-{
-    let at = room(out, kept);
-    let n = least(len, LINE);
-    copy(line, n, out, at);
-    at + n
-}
-
-// Copies a line to a place.
-fn copy(line: &[u8; LINE], len: usize, out: &mut [u8], at: usize)
-    requires { ⌜ (len ≤ 1060) × (at + len ≤ length (now out)) ⌝ }
-{
-    let mut i = 0usize;
-    while i < len {
-        let place = at + i;
-        out[place] = line[i];
-        i += 1;
-    }
-}
-
-// The door after its turn: all lines are written.
-fn flushed(door: Door, out: &[u8], left: usize, more: bool) -> Door {
-    let written = write(out, door.kept);
-    let log = door.log;
-    Door {
-        left,
-        kept: 0,
-        more: more && written,
-        log,
-    }
+// A write failed.
+fn not_written() {
+    io::write_all(
+        STDERR_FILENO,
+        b"door_log: writing failed; the log is not whole\n",
+    );
 }

@@ -7,10 +7,10 @@ use Rattle.door_log.proofs.script.Statement.{statement}
 use Rattle.door_log.proofs.script.Tie as tie
 
 abbrev Inv-loop : tie.InvT-loop
-Inv-loop line₀ chunk₀ out₀ door₀ turns₀ line chunk out door turns = (65536 ≡ length chunk) × (65536 ≡ length out)
+Inv-loop chunk₀ out₀ door₀ turns₀ chunk out door turns = (65536 ≡ length chunk) × (65536 ≡ length out)
 
 abbrev μ-loop : tie.MeasureT-loop
-μ-loop line₀ chunk₀ out₀ door₀ turns₀ line chunk out door turns = turns
+μ-loop chunk₀ out₀ door₀ turns₀ chunk out door turns = turns
 
 loop-holds : tie.Need-loop-holds Inv-loop μ-loop
 loop-holds c = search needs

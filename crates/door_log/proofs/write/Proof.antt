@@ -13,9 +13,22 @@ slice-aggregate-write-all c = front _ _ (c .before .least .ensures)
 write-all-requires : tie.Need-write-all-requires
 write-all-requires c κs = search needs
 
+not-written-requires : tie.Need-not-written-requires
+not-written-requires c κs = search needs
+
 returns : tie.Need-returns
 returns c = search needs
 
+returns-2 : tie.Need-returns-2
+returns-2 c = search needs
+
 pub write-spec : {M : Type 1} → statement M
 write-spec =
-    tie.close (tie.spec least-requires slice-aggregate-write-all write-all-requires returns)
+    tie.close
+    (tie.spec
+    least-requires
+    slice-aggregate-write-all
+    write-all-requires
+    not-written-requires
+    returns
+    returns-2)

@@ -74,7 +74,7 @@ returns c =
     let g = c .before .before .put-byte .ensures in
     let head = wrote-then (wrote-then (wrote-then a b (omega arith)) d (omega arith)) e (omega arith) in
     let all = wrote-then (wrote-then head f (omega arith)) g (omega arith) in
-    wrote-as (shown-called _ _ _ _ _) (rw (c .before .before .before .before .before .before .before .before .before .before .before .before .before .before .before .before .before .before .before .state-letter .ensures) at all)
+    (wrote-as (shown-called _ _ _ _ _) (rw (c .before .before .before .before .before .before .before .before .before .before .before .before .before .before .before .before .before .before .before .state-letter .ensures) at all), omega (arith, g .ends))
 
 pub called-spec : {M : Type 1} → statement M
 called-spec =
