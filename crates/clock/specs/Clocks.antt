@@ -1,7 +1,11 @@
 -- What each call makes of a clock. Definitions only.
-use mathlib.Core.Bool.{Bool, true, false, _&&_, _||_, cond}
+use mathlib.Core.Bool.{Bool, true, false, not, _&&_, _||_, cond}
 use lib.Ieee.{Float, binary32, add, mul, le, eq}
-use Rattle.float32.specs.Helpers.{zeroF, oneF, maxF, minF, finiteF}
+use Rattle.float32.specs.Helpers.{zeroF, oneF, maxF, minF, clampF, finiteF}
+use Rattle.tween.specs.declared.loop_mode.Loop.{Loop}
+use Rattle.steps.specs.declared.Rule.{Rule}
+use Rattle.steps.specs.declared.Rule.the-variants.{Keep, Clear, Sync, Restart}
+use Rattle.steps.specs.Times.{localTime}
 use Rattle.clock.specs.declared.Clock.{Clock}
 use Rattle.clock.specs.declared.TimelineState.{TimelineState}
 use Rattle.clock.specs.declared.TimelineState.the-variants.{Idle, Playing, Paused, Completed}
@@ -48,6 +52,12 @@ playState base = cond (eq base zeroF) Completed Playing
 unfoldable pub played : Clock → Float → Clock
 played c base = withState (started c) (playState base)
 
+-- what `play` sends to every entry: from Completed a reset first; then nothing where the base is 0, else synchronised
+unfoldable pub playRule : Loop → Clock → Float → Rule
+playRule mode c base =
+    let t = localTime mode base (started c .elapsed) in
+    cond (isCompleted (c .state)) (cond (eq base zeroF) Clear (Restart t)) (cond (eq base zeroF) Keep (Sync t))
+
 -- `pause`
 abbrev pub pausedState : TimelineState → TimelineState
 pausedState Idle = Idle
@@ -74,6 +84,10 @@ resumed c = withState c (resumedState (c .state))
 unfoldable pub seekTo : Float → Float → Float
 seekTo total secs = cond (finiteF total) (minF (maxF secs zeroF) total) (maxF secs zeroF)
 
+-- the second that a share stands for, in `seek`: a share of the run, or of the base where the run is not finite
+unfoldable pub shareIn : Float → Float → Float → Float
+shareIn base total share = mul binary32 (cond (finiteF total) total base) (clampF share zeroF oneF)
+
 -- the state after a seek that does not reach the end
 abbrev pub unended : TimelineState → TimelineState
 unended Idle = Idle
@@ -93,6 +107,10 @@ sought c total elapsed =
 -- `dt.max(0.0) * self.time_scale` after the elapsed time
 unfoldable pub nextElapsed : Clock → Float → Float
 nextElapsed c dt = add binary32 (c .elapsed) (mul binary32 (maxF dt zeroF) (c .«time_scale»))
+
+-- whether the whole-run completion fires in an update: "once until a reset"
+abbrev pub fires : Clock → Bool → Bool
+fires c ended = ended && not (c .«complete_fired»)
 
 -- `complete_from_update` where the run ends: the state, and the whole-run completion, which "fires once until a reset"
 unfoldable pub advancedClock : Clock → Float → Bool → Clock

@@ -1,7 +1,9 @@
 // The clock of a timeline, and what each call makes of it (timeline.rs; paper 01, part 4).
+use steps::Rule;
+use tween::Loop;
 ghost use mathlib.Core.Path.{_≡_};
 ghost use mathlib.Core.Bool.{cond};
-ghost use Rattle.clock.specs.Clocks.{isPlaying, isCompleted, withState, scaled, cleared, started, playState, played, pausedState, paused, resumedState, resumed, unended, seekTo, seekState, sought, nextElapsed, advancedClock};
+ghost use Rattle.clock.specs.Clocks.{isPlaying, isCompleted, withState, scaled, cleared, started, playState, played, playRule, pausedState, paused, resumedState, resumed, unended, seekTo, shareIn, seekState, sought, nextElapsed, fires, advancedClock};
 
 // The playback state of a timeline.
 pub enum TimelineState {
@@ -121,6 +123,41 @@ pub fn seek_to(total: f32, secs: f32) -> f32
     }
 }
 
+// The second that a share stands for, in `seek`.
+pub fn share_in(base: f32, total: f32, share: f32) -> f32
+    ensures { λ r. ⌜ r ≡ shareIn base total share ⌝ }
+{
+    let part = float32::clamp(share, 0.0, 1.0);
+    if float32::is_finite(total) {
+        total * part
+    } else {
+        base * part
+    }
+}
+
+// What `play` sends to every entry, from this clock.
+pub fn play_rule(mode: Loop, clock: Clock, base: f32) -> Rule
+    ensures { λ r. ⌜ r ≡ playRule mode clock base ⌝ }
+{
+    let from = clock.started();
+    let elapsed = from.elapsed;
+    let t = steps::local_time(mode, base, elapsed);
+    let state = clock.state;
+    if is_completed(state) {
+        if base == 0.0 {
+            Rule::Clear
+        } else {
+            Rule::Restart(t)
+        }
+    } else {
+        if base == 0.0 {
+            Rule::Keep
+        } else {
+            Rule::Sync(t)
+        }
+    }
+}
+
 impl Clock {
     // The clock in another state.
     fn with_state(self, state: TimelineState) -> Clock
@@ -214,6 +251,13 @@ impl Clock {
     {
         let step = float32::max(dt, 0.0) * self.time_scale;
         self.elapsed + step
+    }
+
+    // Whether the whole-run completion fires in an update that ends the run, or does not.
+    pub fn fires(self, ended: bool) -> bool
+        ensures { λ r. ⌜ r ≡ fires self ended ⌝ }
+    {
+        steps::both(ended, !self.complete_fired)
     }
 
     // `update` that comes to elapsed. Where the run ends there it is Completed, and the whole-run completion has fired.

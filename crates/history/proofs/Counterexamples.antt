@@ -12,10 +12,10 @@ use Rattle.steps.specs.Times.{twoF, baseOf, timesRun, runOf, timesLocal, localT
 use Rattle.steps.specs.Rows.{synced, cleared, ticked, tickedIn, tickedOver, tickRow}
 use Rattle.walk.specs.Completions.{completes, inCycle, cycleStart, breaksAt, stopsAt, cycles, completionsIn, completionsBetween}
 use Rattle.clock.specs.declared.TimelineState.the-variants.{Completed}
-use Rattle.clock.specs.Clocks.{isPlaying, isCompleted, withState, scaled, started, playState, played, seekTo, seekState, sought, nextElapsed, advancedClock}
+use Rattle.clock.specs.Clocks.{playRule, isPlaying, isCompleted, withState, scaled, started, playState, played, seekTo, seekState, sought, nextElapsed, advancedClock}
 use Rattle.track.specs.Tracks.{trackBase, trackRun, emptyTrack}
 use Rattle.track.specs.Updates.{aboveOne, ticks, newlyDone, tickedTo, syncedTo, playing}
-use Rattle.track.specs.Calls.{Room, Looping, SetTimeScale, Play, Update, sent, playRule, soughtTo, advancedTo, updated, updatedWith, trackStep}
+use Rattle.track.specs.Calls.{Room, Looping, SetTimeScale, Play, Update, sent, soughtTo, advancedTo, updated, updatedWith, trackStep}
 use Rattle.timeline.specs.declared.timeline.At.the-variants.{Start}
 use Rattle.timeline.specs.declared.timeline.Timeline.{Timeline}
 use Rattle.timeline.specs.Placements.{empty, resolveStart}

@@ -8,10 +8,10 @@ use Rattle.steps.specs.declared.Rule.{Rule}
 use Rattle.steps.specs.declared.Rule.the-variants.{Sync}
 use Rattle.steps.specs.Times.{runOf, localTime}
 use Rattle.steps.specs.Rows.{ruled}
-use Rattle.track.specs.Tracks.{live, trackBase, shareIn, shareOf, rowsOf, moved, Sent}
+use Rattle.track.specs.Tracks.{live, trackBase, shareOf, rowsOf, moved, Sent}
 use Rattle.track.specs.Calls.{Room, roomOf, TrackOut, short, sent, soughtTo, movedBy, withClock}
 use Rattle.clock.specs.declared.Clock.{Clock}
-use Rattle.clock.specs.Clocks.{seekTo, sought}
+use Rattle.clock.specs.Clocks.{seekTo, shareIn, sought}
 use Rattle.track.specs.declared.track.Track.{Track}
 use Rattle.track.specs.declared.track.TrackMoved.{TrackMoved}
 

@@ -1,16 +1,15 @@
 -- The calls on a track: what each leaves, sends, answers and refuses. `trackStep` is the definition of them all.
 use Prim.Native.Nat.{ℕ}
-use mathlib.Core.Bool.{Bool, true, false, not, _&&_, _||_, cond}
+use mathlib.Core.Bool.{Bool, true, false, not, _||_, cond}
 use mathlib.Core.List.{List, [], map}
 use lib.Dec.{ltb}
 use lib.ListN.{length}
-use lib.Ieee.{Float, eq}
-use Rattle.float32.specs.Helpers.{zeroF}
+use lib.Ieee.{Float}
 use Rattle.refusal.specs.Refusal.{accepted, rowsTooShort, badReplies, listTooShort}
 use Rattle.tween.specs.declared.loop_mode.Loop.{Loop}
 use Rattle.steps.specs.declared.Row.{Row}
 use Rattle.steps.specs.declared.Rule.{Rule}
-use Rattle.steps.specs.declared.Rule.the-variants.{Keep, Clear, Sync, Restart}
+use Rattle.steps.specs.declared.Rule.the-variants.{Keep, Clear, Sync}
 use Rattle.steps.specs.Times.{localTime}
 use Rattle.steps.specs.Rows.{ruled}
 use Rattle.clock.specs.declared.Clock.{Clock}
@@ -19,7 +18,7 @@ use Rattle.clock.specs.declared.TimelineState.the-variants.{Idle, Playing, Paus
 use Rattle.track.specs.declared.track.Track.{Track}
 use Rattle.track.specs.declared.track.TrackMoved.{TrackMoved}
 use Rattle.track.specs.declared.track.TrackUpdated.{TrackUpdated}
-use Rattle.clock.specs.Clocks.{isCompleted, scaled, cleared, started, played, paused, resumed, seekTo, sought, advancedClock}
+use Rattle.clock.specs.Clocks.{scaled, cleared, played, playRule, paused, resumed, seekTo, sought, fires, advancedClock}
 use Rattle.track.specs.Tracks.{live, trackBase, trackRun, shareOf, rowsOf, moved}
 use Rattle.track.specs.Updates.{repliesBad, Advance, playing}
 
@@ -74,12 +73,6 @@ sent k c rule r =
     unless (short r k) rowsTooShort k
     (record { refusal = accepted; track = moved k c ss; rows = rowsOf ss; running = false; completed = false; listed = [] })
 
--- `play`: from Completed a reset first; then nothing where the base is 0, else synchronised
-unfoldable pub playRule : Loop → Clock → Float → Rule
-playRule mode c base =
-    let t = localTime mode base (started c .elapsed) in
-    cond (isCompleted (c .state)) (cond (eq base zeroF) Clear (Restart t)) (cond (eq base zeroF) Keep (Sync t))
-
 -- `seek_abs`
 unfoldable pub soughtTo : Track → Float → Room → TrackOut
 soughtTo k secs r =
@@ -94,7 +87,7 @@ advancedTo k a =
       track = moved k (advancedClock (k .clock) (a .elapsed) (a .ended)) (a .steps);
       rows = rowsOf (a .steps);
       running = not (a .ended);
-      completed = a .ended && not (k .clock .«complete_fired»);
+      completed = fires (k .clock) (a .ended);
       listed = a .listed;
     }
 

@@ -16,7 +16,7 @@ use Rattle.steps.specs.declared.Rule.the-variants.{Keep, Sync}
 use Rattle.steps.specs.Slices.{over}
 use Rattle.steps.specs.Times.{localTime}
 use Rattle.clock.specs.declared.Clock.{Clock}
-use Rattle.clock.specs.Clocks.{isPlaying, isCompleted, nextElapsed}
+use Rattle.clock.specs.Clocks.{isPlaying, isCompleted, nextElapsed, fires}
 use Rattle.track.specs.declared.track.Track.{Track}
 use Rattle.track.specs.declared.track.TrackUpdated.{TrackUpdated}
 use Rattle.track.specs.declared.update.Answer.{Answer}
@@ -47,7 +47,7 @@ stoppedBy n = record { refusal = n; running = false; completed = false; listed =
 
 -- the answer of an update from the clock c that ends the run, or does not
 abbrev pub reachedFrom : Clock → Bool → ℕ → Answer
-reachedFrom c ended listed = record { refusal = accepted; running = not ended; completed = ended && not (c .«complete_fired»); listed = listed }
+reachedFrom c ended listed = record { refusal = accepted; running = not ended; completed = fires c ended; listed = listed }
 
 -- the answer of an update that does not play
 abbrev pub restingIn : Clock → Answer

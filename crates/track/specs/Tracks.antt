@@ -4,7 +4,7 @@ use mathlib.Core.Path.{_≡_}
 use mathlib.Core.Bool.{Bool, false, cond}
 use mathlib.Core.List.{List, [], _∷_, map}
 use lib.ListN.{take, replicate}
-use lib.Ieee.{Float, binary32, div, mul, eq}
+use lib.Ieee.{Float, binary32, div, eq}
 use Rattle.float32.specs.Helpers.{zeroF, oneF, clampF, finiteF}
 use Rattle.tween.specs.declared.loop_mode.Loop.{Loop}
 use Rattle.tween.specs.declared.loop_mode.Loop.the-variants.{Once}
@@ -15,7 +15,7 @@ use Rattle.steps.specs.Slices.{over}
 use Rattle.steps.specs.Times.{maxEntries, baseOf, runOf, localTime}
 use Rattle.clock.specs.declared.Clock.{Clock}
 use Rattle.track.specs.declared.track.Track.{Track}
-use Rattle.clock.specs.Clocks.{newClock}
+use Rattle.clock.specs.Clocks.{newClock, shareIn}
 
 -- what stands in a place that holds no entry
 abbrev pub blank : Entry
@@ -48,11 +48,7 @@ progressIn mode base total elapsed =
 abbrev pub progressOf : Track → Float
 progressOf k = progressIn (k .looping) (trackBase k) (trackRun k) (k .clock .elapsed)
 
--- the second that a share stands for, in `seek`: a share of the run, or of the base where the run is not finite
-unfoldable pub shareIn : Float → Float → Float → Float
-shareIn base total share = mul binary32 (cond (finiteF total) total base) (clampF share zeroF oneF)
-
--- the same, in a track
+-- the second that a share stands for, in a track
 abbrev pub shareOf : Track → Float → Float
 shareOf k share = shareIn (trackBase k) (trackRun k) share
 

@@ -12,8 +12,8 @@ ghost use Prim.Native.Nat.{_≤_};
 ghost use lib.Dec.{ltb};
 ghost use lib.ListN.{length};
 ghost use Rattle.steps.specs.Rows.{ruled};
-ghost use Rattle.track.specs.Tracks.{emptyTrack, live, trackBase, trackRun, progressIn, progressOf, shareIn, marked, rowsOf, moved, Sent};
-ghost use Rattle.track.specs.Calls.{Looping, SetTimeScale, Play, Pause, Resume, Reset, Seek, SeekAbs, roomOf, sent, playRule, trackStep, movedBy};
+ghost use Rattle.track.specs.Tracks.{emptyTrack, live, trackBase, trackRun, progressIn, progressOf, marked, rowsOf, moved, Sent};
+ghost use Rattle.track.specs.Calls.{Looping, SetTimeScale, Play, Pause, Resume, Reset, Seek, SeekAbs, roomOf, sent, trackStep, movedBy};
 
 // Seconds of play, as `seek_abs` takes them.
 pub struct Secs(pub f32);
@@ -126,29 +126,6 @@ fn send(
     }
 }
 
-// What `play` sends to every entry, from this clock.
-fn play_rule(mode: Loop, clock: Clock, base: f32) -> Rule
-    ensures { λ r. ⌜ r ≡ playRule mode clock base ⌝ }
-{
-    let from = clock.started();
-    let elapsed = from.elapsed;
-    let t = steps::local_time(mode, base, elapsed);
-    let state = clock.state;
-    if clock::is_completed(state) {
-        if base == 0.0 {
-            Rule::Clear
-        } else {
-            Rule::Restart(t)
-        }
-    } else {
-        if base == 0.0 {
-            Rule::Keep
-        } else {
-            Rule::Sync(t)
-        }
-    }
-}
-
 // `progress` at an elapsed time.
 fn progress_in(mode: Loop, base: f32, total: f32, elapsed: f32) -> f32
     ensures { λ r. ⌜ r ≡ progressIn mode base total elapsed ⌝ }
@@ -164,18 +141,6 @@ fn progress_in(mode: Loop, base: f32, total: f32, elapsed: f32) -> f32
     }
     let t = steps::local_time(mode, base, elapsed);
     float32::clamp(t / base, 0.0, 1.0)
-}
-
-// The second that a share stands for.
-fn share_in(base: f32, total: f32, share: f32) -> f32
-    ensures { λ r. ⌜ r ≡ shareIn base total share ⌝ }
-{
-    let part = float32::clamp(share, 0.0, 1.0);
-    if float32::is_finite(total) {
-        total * part
-    } else {
-        base * part
-    }
 }
 
 impl Track {
@@ -237,7 +202,7 @@ impl Track {
         let mode = self.looping;
         let c = self.clock;
         let clock = c.played(base);
-        let rule = play_rule(mode, c, base);
+        let rule = clock::play_rule(mode, c, base);
         send(self, clock, rule, kinds, amounts, places)
     }
 
@@ -314,7 +279,7 @@ impl Track {
                 i += 1;
             }
             let total = steps::run_of(mode, base);
-            let secs = share_in(base, total, to.0);
+            let secs = clock::share_in(base, total, to.0);
             let elapsed = clock::seek_to(total, secs);
             let t = steps::local_time(mode, base, elapsed);
             clock = clock.sought(total, elapsed);

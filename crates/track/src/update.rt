@@ -109,7 +109,7 @@ fn stopped(refusal: u8) -> Answer
 fn reached(clock: Clock, ended: bool, listed: usize) -> Answer
     ensures { λ r. ⌜ r ≡ reachedFrom clock ended listed ⌝ }
 {
-    let completed = steps::both(ended, !clock.complete_fired);
+    let completed = clock.fires(ended);
     Answer {
         refusal: refusal::ACCEPTED,
         running: !ended,

@@ -1,9 +1,9 @@
 -- `share_in` is `shareIn`.
 use mathlib.Core.Path.{sym, _∙_}
-use Rattle.track.specs.Tracks.{shareIn}
+use Rattle.clock.specs.Clocks.{shareIn}
 use borrow.Author.Needs.{needs}
-use Rattle.track.proofs.track.share_in.Statement.{statement}
-use Rattle.track.proofs.track.share_in.Tie as tie
+use Rattle.clock.proofs.share_in.Statement.{statement}
+use Rattle.clock.proofs.share_in.Tie as tie
 
 clamp-requires : tie.Need-clamp-requires
 clamp-requires c κs = search needs

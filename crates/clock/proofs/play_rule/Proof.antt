@@ -1,9 +1,9 @@
 use mathlib.Core.Path.{refl, sym, _∙_}
-use Rattle.track.specs.Calls.{playRule}
+use Rattle.clock.specs.Clocks.{playRule}
 use Rattle.steps.proofs.Tests.{yes, no}
 use borrow.Author.Needs.{needs}
-use Rattle.track.proofs.track.play_rule.Statement.{statement}
-use Rattle.track.proofs.track.play_rule.Tie as tie
+use Rattle.clock.proofs.play_rule.Statement.{statement}
+use Rattle.clock.proofs.play_rule.Tie as tie
 
 -- `play_rule` is `playRule`: each return goes by the tests that led there.
 
