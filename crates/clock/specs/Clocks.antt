@@ -1,14 +1,24 @@
 -- What each call makes of a clock. Definitions only.
+use Prim.Native.Nat.{ℕ}
 use mathlib.Core.Bool.{Bool, true, false, not, _&&_, _||_, cond}
 use lib.Ieee.{Float, binary32, add, mul, le, eq}
 use Rattle.float32.specs.Helpers.{zeroF, oneF, maxF, minF, clampF, finiteF}
 use Rattle.tween.specs.declared.loop_mode.Loop.{Loop}
+use Rattle.tween.specs.declared.loop_mode.Loop.the-variants.{Once, Times, Forever, PingPong, PingPongTimes}
 use Rattle.steps.specs.declared.Rule.{Rule}
 use Rattle.steps.specs.declared.Rule.the-variants.{Keep, Clear, Sync, Restart}
-use Rattle.steps.specs.Times.{localTime}
+use Rattle.steps.specs.Times.{timesRun, localTime}
 use Rattle.clock.specs.declared.Clock.{Clock}
+use Rattle.clock.specs.declared.Reach.{Reach}
 use Rattle.clock.specs.declared.TimelineState.{TimelineState}
 use Rattle.clock.specs.declared.TimelineState.the-variants.{Idle, Playing, Paused, Completed}
+
+-- "state letter (I, P, H for Paused, C)"
+abbrev pub letterOf : TimelineState → ℕ
+letterOf Idle = 73
+letterOf Playing = 80
+letterOf Paused = 72
+letterOf Completed = 67
 
 -- `self.state == Playing`
 abbrev pub isPlaying : TimelineState → Bool
@@ -107,6 +117,22 @@ sought c total elapsed =
 -- `dt.max(0.0) * self.time_scale` after the elapsed time
 unfoldable pub nextElapsed : Clock → Float → Float
 nextElapsed c dt = add binary32 (c .elapsed) (mul binary32 (maxF dt zeroF) (c .«time_scale»))
+
+-- a run of this length bounds an update to next, and ends it: `next_elapsed.min(total)`, `next_elapsed >= total`
+abbrev pub within : Float → Float → Reach
+within total next = record { elapsed = minF next total; ended = le total next }
+
+-- a run without end does not
+abbrev pub onward : Float → Reach
+onward next = record { elapsed = next; ended = false }
+
+-- where an update to next comes to, by the mode, in a base that is not 0
+unfoldable pub reachOf : Loop → Float → Float → Reach
+reachOf Once base next = within base next
+reachOf (Times n) base next = within (timesRun base n) next
+reachOf Forever base next = onward next
+reachOf PingPong base next = onward next
+reachOf (PingPongTimes n) base next = within (timesRun base n) next
 
 -- whether the whole-run completion fires in an update: "once until a reset"
 abbrev pub fires : Clock → Bool → Bool

@@ -3,7 +3,7 @@ use steps::Rule;
 use tween::Loop;
 ghost use mathlib.Core.Path.{_≡_};
 ghost use mathlib.Core.Bool.{cond};
-ghost use Rattle.clock.specs.Clocks.{isPlaying, isCompleted, withState, scaled, cleared, started, playState, played, playRule, pausedState, paused, resumedState, resumed, unended, seekTo, shareIn, seekState, sought, nextElapsed, fires, advancedClock};
+ghost use Rattle.clock.specs.Clocks.{letterOf, isPlaying, isCompleted, withState, scaled, cleared, started, playState, played, playRule, pausedState, paused, resumedState, resumed, unended, seekTo, shareIn, seekState, sought, nextElapsed, within, reachOf, fires, advancedClock};
 
 // The playback state of a timeline.
 pub enum TimelineState {
@@ -23,6 +23,24 @@ pub struct Clock {
     pub state: TimelineState,
     pub time_scale: f32,
     pub complete_fired: bool,
+}
+
+// Where an update comes to: the elapsed time, and whether the run ends there.
+pub struct Reach {
+    pub elapsed: f32,
+    pub ended: bool,
+}
+
+// The letter of a state in a log.
+pub fn letter(state: TimelineState) -> u8
+    ensures { λ r. ⌜ r ≡ letterOf state ⌝ }
+{
+    match state {
+        TimelineState::Idle => b'I',
+        TimelineState::Playing => b'P',
+        TimelineState::Paused => b'H',
+        TimelineState::Completed => b'C',
+    }
 }
 
 // Whether it is advancing.
@@ -155,6 +173,35 @@ pub fn play_rule(mode: Loop, clock: Clock, base: f32) -> Rule
         } else {
             Rule::Sync(t)
         }
+    }
+}
+
+// A run of this length bounds an update to next, and ends it.
+pub fn reach_within(total: f32, next: f32) -> Reach
+    ensures { λ r. ⌜ r ≡ within total next ⌝ }
+{
+    Reach {
+        elapsed: float32::min(next, total),
+        ended: next >= total,
+    }
+}
+
+// Where an update to next comes to, by the mode, in a base that is not 0.
+pub fn reach_of(mode: Loop, base: f32, next: f32) -> Reach
+    ensures { λ r. ⌜ r ≡ reachOf mode base next ⌝ }
+{
+    match mode {
+        Loop::Once => reach_within(base, next),
+        Loop::Times(n) => reach_within(steps::times_run(base, n), next),
+        Loop::Forever => Reach {
+            elapsed: next,
+            ended: false,
+        },
+        Loop::PingPong => Reach {
+            elapsed: next,
+            ended: false,
+        },
+        Loop::PingPongTimes(n) => reach_within(steps::times_run(base, n), next),
     }
 }
 

@@ -1,4 +1,4 @@
--- The text of a label that is made from a name.
+-- The text of a label that is made from a label.
 use Prim.Native.Nat.{ℕ, zero, suc, _+_, _-_, _<_, _≤_}
 use mathlib.Core.Path.{_≡_, refl, ap, _∙_}
 use mathlib.Core.List.{List, [], _∷_, _++_, append-assoc}
@@ -10,12 +10,12 @@ use Rattle.label.specs.declared.Label.{Label}
 use Rattle.label.specs.Label.{maxLabel, text, labelOf}
 
 -- what is beyond 24 bytes is cut
-pub text-of : (name : List ℕ) → text (labelOf name) ≡ take maxLabel name
-text-of name = take-append-seam (take maxLabel name) _
+pub text-of : (label : List ℕ) → text (labelOf label) ≡ take maxLabel label
+text-of label = take-append-seam (take maxLabel label) _
 
--- a name of up to 24 bytes is kept whole
-pub text-whole : (name : List ℕ) → length name ≤ maxLabel → text (labelOf name) ≡ name
-text-whole name h = text-of name ∙ take-all maxLabel name h
+-- a label of up to 24 bytes is kept whole
+pub text-whole : (label : List ℕ) → length label ≤ maxLabel → text (labelOf label) ≡ label
+text-whole label h = text-of label ∙ take-all maxLabel label h
 
 -- a front, taken by its own length
 pub take-taken : {A : Type 0} (n : ℕ) (xs : List A) → take (length (take n xs)) xs ≡ take n xs

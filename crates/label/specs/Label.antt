@@ -8,6 +8,16 @@ use Rattle.label.specs.declared.Label.{Label}
 use Rattle.label.specs.declared.Found.{Found}
 use Rattle.label.specs.declared.Found.the-variants.{At, Nothing}
 
+-- whether the label that was looked for was found
+abbrev pub isFound : Found → Bool
+isFound (At k) = true
+isFound Nothing = false
+
+-- the number of the label found, 0 where nothing was found
+abbrev pub placeOf : Found → ℕ
+placeOf (At k) = k
+placeOf Nothing = 0
+
 -- "a label has 0 to 24 bytes of any content"
 abbrev pub maxLabel : ℕ
 maxLabel = 24
@@ -20,9 +30,9 @@ text l = take (l .len) (l .bytes)
 abbrev pub withText : List ℕ → Label
 withText t = record { bytes = t ++ replicate (maxLabel - length t) 0; len = length t }
 
--- the label of the first 24 bytes of a name
+-- the label whose text is the first 24 bytes of these
 abbrev pub labelOf : List ℕ → Label
-labelOf name = withText (take maxLabel name)
+labelOf label = withText (take maxLabel label)
 
 -- "equal labels": `entry.label == label`, byte by byte
 unfoldable pub sameText : List ℕ → List ℕ → Bool
@@ -33,12 +43,12 @@ sameText (x ∷ xs) (y ∷ ys) = eqb x y && sameText xs ys
 
 -- the number of the first label with this text, in a list whose first label has number i
 unfoldable pub firstFrom : ℕ → List ℕ → List Label → Found
-firstFrom i name [] = Nothing
-firstFrom i name (l ∷ ls) = cond (sameText (text l) name) (At i) (firstFrom (i + 1) name ls)
+firstFrom i target [] = Nothing
+firstFrom i target (l ∷ ls) = cond (sameText (text l) target) (At i) (firstFrom (i + 1) target ls)
 
 -- "the first entry with that label": `find` in `resolve_start`
 abbrev pub firstWith : List ℕ → List Label → Found
-firstWith name ls = firstFrom 0 name ls
+firstWith target ls = firstFrom 0 target ls
 
 -- what is read past the last label
 abbrev pub noLabel : Label

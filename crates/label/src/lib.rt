@@ -1,7 +1,7 @@
 // Labels of timeline entries, by value (paper 01, "A panel").
 use steps::MAX_ENTRIES;
 ghost use mathlib.Core.Path.{_≡_};
-ghost use Prim.Native.Nat.{_≤_, min};
+ghost use Prim.Native.Nat.{_≤_};
 ghost use lib.ListN.{length, take};
 ghost use Rattle.label.specs.Label.{text, labelOf, sameText, firstWith, firstLike};
 
@@ -20,22 +20,15 @@ pub enum Found {
     Nothing,
 }
 
-// n, or top where that is less.
-fn at_most(n: usize, top: usize) -> usize
-    ensures { λ r. ⌜ r ≡ min n top ⌝ }
+// The label whose text is the first MAX_LABEL bytes of label.
+pub fn label_of(label: &[u8]) -> Label
+    ensures { λ r. ⌜ r ≡ labelOf (now (label .entry)) ⌝ }
 {
-    if n < top { n } else { top }
-}
-
-// The label of the first MAX_LABEL bytes of name.
-pub fn label_of(name: &[u8]) -> Label
-    ensures { λ r. ⌜ r ≡ labelOf (now (name .entry)) ⌝ }
-{
-    let n = at_most(name.len(), MAX_LABEL);
+    let n = steps::least(label.len(), MAX_LABEL);
     let mut bytes = [0u8; MAX_LABEL];
     let mut i = 0usize;
     while i < n {
-        bytes[i] = name[i];
+        bytes[i] = label[i];
         i += 1;
     }
     Label {
@@ -45,10 +38,10 @@ pub fn label_of(name: &[u8]) -> Label
 }
 
 // How many bytes the text has.
-fn text_len(l: Label) -> usize
-    ensures { λ r. ⌜ (take r (l .bytes) ≡ text l) × (r ≤ length (l .bytes)) ⌝ }
+pub fn text_len(l: Label) -> usize
+    ensures { λ r. ⌜ (take r (l .bytes) ≡ text l) × (r ≤ length (l .bytes)) × (r ≡ length (text l)) ⌝ }
 {
-    at_most(l.len as usize, MAX_LABEL)
+    steps::least(l.len as usize, MAX_LABEL)
 }
 
 // Whether two texts are equal, byte by byte.
@@ -68,24 +61,24 @@ fn same_text(a: &[u8], b: &[u8]) -> bool
     true
 }
 
-// Whether name is the label's text.
-pub fn has_text(l: Label, name: &[u8]) -> bool
-    ensures { λ r. ⌜ r ≡ sameText (text l) (now (name .entry)) ⌝ }
+// Whether target is the label's text.
+pub fn has_text(l: Label, target: &[u8]) -> bool
+    ensures { λ r. ⌜ r ≡ sameText (text l) (now (target .entry)) ⌝ }
 {
     let n = text_len(l);
     let bytes = l.bytes;
-    same_text(&bytes[..n], name)
+    same_text(&bytes[..n], target)
 }
 
-// The first of the labels that count with this text. A name above MAX_LABEL bytes is the text of none.
-pub fn find(labels: [Label; MAX_ENTRIES], count: usize, name: &[u8]) -> Found
-    ensures { λ r. ⌜ r ≡ firstWith (now (name .entry)) (take count labels) ⌝ }
+// The first of the labels that count with this text. A target above MAX_LABEL bytes is the text of none.
+pub fn find(labels: [Label; MAX_ENTRIES], count: usize, target: &[u8]) -> Found
+    ensures { λ r. ⌜ r ≡ firstWith (now (target .entry)) (take count labels) ⌝ }
 {
-    let n = at_most(count, MAX_ENTRIES);
+    let n = steps::least(count, MAX_ENTRIES);
     let mut k = 0usize;
     while k < n {
         let l = labels[k];
-        if has_text(l, name) {
+        if has_text(l, target) {
             return Found::At(k);
         }
         k += 1;
@@ -97,7 +90,7 @@ pub fn find(labels: [Label; MAX_ENTRIES], count: usize, name: &[u8]) -> Found
 pub fn find_like(labels: [Label; MAX_ENTRIES], count: usize, k: usize) -> Found
     ensures { λ r. ⌜ r ≡ firstLike k (take count labels) ⌝ }
 {
-    if k >= at_most(count, MAX_ENTRIES) {
+    if k >= steps::least(count, MAX_ENTRIES) {
         return Found::Nothing;
     }
     let l = labels[k];

@@ -7,14 +7,14 @@ use Rattle.float32.specs.Helpers.{zeroF, oneF}
 use Rattle.steps.specs.declared.Entry.{Entry}
 use Rattle.steps.specs.declared.Stepped.{Stepped}
 use Rattle.steps.specs.Times.{endAt}
-use Rattle.steps.specs.Rows.{synced, cleared, stepped, seekRow}
+use Rattle.steps.specs.Rows.{synced, resetStep, stepped, seekRow}
 
 -- synchronising sends one reset or one seek
 pub synced-kind : (t : Float) (e : Entry) → synced t e .row .kind ≤ 8
 unfolding synced
 synced-kind t e = go (le t (e .start)) (le (endAt e) t || eq (e .duration) zeroF)
   where
-    go : (a b : Bool) → cond a cleared (cond b (stepped (seekRow oneF) true) (stepped (seekRow (div binary32 (sub binary32 t (e .start)) (e .duration))) false)) .row .kind ≤ 8
-    go true b = unfold cleared in lit≤ tt
+    go : (a b : Bool) → cond a resetStep (cond b (stepped (seekRow oneF) true) (stepped (seekRow (div binary32 (sub binary32 t (e .start)) (e .duration))) false)) .row .kind ≤ 8
+    go true b = unfold resetStep in lit≤ tt
     go false true = lit≤ tt
     go false false = lit≤ tt

@@ -2,3 +2,4 @@ pub mod Tests
 pub mod Inside
 pub mod Lists
 pub mod KindBound
+pub mod Cases

@@ -1,3 +1,4 @@
 pub mod Times
 pub mod Rows
 pub mod Slices
+pub mod Cases

@@ -33,15 +33,15 @@ seekRow place = row 8 zeroF place
 unfoldable pub untouched : Entry → Stepped
 untouched e = stepped noRow (e .done)
 
--- a reset, as `Timeline::reset` sends it
-unfoldable pub cleared : Stepped
-cleared = stepped resetRow false
+-- a reset, as `Timeline::reset` sends it, which takes the mark away
+unfoldable pub resetStep : Stepped
+resetStep = stepped resetRow false
 
 -- `sync_to_elapsed` for one entry at the local time t
 unfoldable pub synced : Float → Entry → Stepped
 synced t e =
     cond (le t (e .start))
-    cleared
+    resetStep
     (cond (le (endAt e) t || eq (e .duration) zeroF)
     (stepped (seekRow oneF) true)
     (stepped (seekRow (div binary32 (sub binary32 t (e .start)) (e .duration))) false))
@@ -50,29 +50,23 @@ synced t e =
 abbrev pub kindOf : Bool → Bool → Bool → ℕ
 kindOf reset update seek = cond reset 1 0 + cond update 4 0 + cond seek 8 0
 
--- the row of a tick that sends these steps, the seek being to 1.0, and the mark
-unfoldable pub tickRow : Bool → Bool → Bool → Float → Bool → Stepped
-tickRow reset update seek amount done =
-    stepped (row (kindOf reset update seek) (cond update amount zeroF) (cond seek oneF zeroF)) done
-
--- `tick_forward` for an entry of some length: an update over what the step and the entry share, from x to y, and a seek at the end
-unfoldable pub tickedOver : Bool → Bool → Float → Float → Bool → ℕ → Stepped
-tickedOver entered kept x y ended reply =
-    tickRow entered (lt x y) ended (sub binary32 y x) (ended || ((lt x y && eqb reply 0) || kept))
-
--- `tick_forward` for an entry that has begun; where it begins in this step it is reset first
-unfoldable pub tickedIn : Float → Float → Entry → ℕ → Bool → Stepped
-tickedIn prev next e reply entered =
-    cond (eq (e .duration) zeroF)
-    (tickRow entered false (le (e .start) next) zeroF (le (e .start) next || (not entered && e .done)))
-    (tickedOver entered (not entered && e .done) (maxF prev (e .start)) (minF next (endAt e)) (le (endAt e) next) reply)
-
--- `tick_forward` for one entry, with its leaf's reply: 0 stopped, 1 running
+-- `tick_forward` for one entry, in its order, with its leaf's reply: 0 stopped, 1 running. The step from prev to next is closed at both
+-- ends: an entry that starts exactly at next is reset by this update, and by the one after it, which starts there.
 unfoldable pub ticked : Float → Float → Entry → ℕ → Stepped
 ticked prev next e reply =
-    cond (lt next (e .start))
-    cleared
-    (tickedIn prev next e reply (le prev (e .start) && le (e .start) next))
+    let start = e .start in
+    let end = endAt e in
+    let entered = le prev start && le start next in
+    let instant = eq (e .duration) zeroF in
+    let from = maxF prev start in
+    let to = minF next end in
+    let updates = not instant && lt from to in
+    let stopped = updates && eqb reply 0 in
+    let ends = cond instant (le start next) (le end next) in
+    let kept = not entered && e .done in
+    cond (lt next start)
+    resetStep
+    (stepped (row (kindOf entered updates ends) (cond updates (sub binary32 to from) zeroF) (cond ends oneF zeroF)) (ends || (stopped || kept)))
 
 -- one reset more, before the other steps
 unfoldable pub resetFirst : Stepped → Stepped
@@ -81,6 +75,6 @@ resetFirst s = stepped (row (s .row .kind + 1) (s .row .amount) (s .row .place))
 -- what a call other than a tick sends to an entry
 abbrev pub ruled : Rule → Entry → Stepped
 ruled Keep e = untouched e
-ruled Clear e = cleared
+ruled Clear e = resetStep
 ruled (Sync t) e = synced t e
 ruled (Restart t) e = resetFirst (synced t e)

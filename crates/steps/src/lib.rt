@@ -2,12 +2,13 @@
 use tween::Loop;
 ghost use mathlib.Core.Path.{_≡_};
 ghost use mathlib.Core.Bool.{true, false, not, cond, _&&_, _||_};
-ghost use Prim.Native.Nat.{_≤_};
-ghost use lib.Dec.{eqb};
+ghost use Prim.Native.Nat.{_≤_, min};
+ghost use lib.Dec.{eqb, T};
 ghost use lib.Ieee.{binary32, sub, rem, lt, le, eq};
-ghost use Rattle.float32.specs.Helpers.{zeroF};
+ghost use Rattle.float32.specs.Helpers.{zeroF, oneF};
 ghost use Rattle.steps.specs.Times.{endAt, runIn, runOf, timesRun, timesLocal, pingPong, localIn, localTime};
-ghost use Rattle.steps.specs.Rows.{untouched, cleared, kindOf, tickRow, synced, tickedOver, tickedIn, ticked, resetFirst, ruled};
+ghost use Rattle.steps.specs.Rows.{row, stepped, seekRow, untouched, resetStep, kindOf, synced, ticked, resetFirst, ruled};
+ghost use Rattle.steps.specs.Cases.{allHold, table};
 
 // How many entries a timeline holds at most.
 pub const MAX_ENTRIES: usize = 64;
@@ -48,7 +49,7 @@ pub fn end_at(e: Entry) -> f32
 }
 
 // The run of n passes, or of one where n is 0.
-fn times_run(base: f32, n: u32) -> f32
+pub fn times_run(base: f32, n: u32) -> f32
     ensures { λ r. ⌜ r ≡ timesRun base n ⌝ }
 {
     base * float32::from_u32(tween::loop_mode::passes(n))
@@ -145,7 +146,7 @@ fn keep_entry(e: Entry) -> Stepped
 
 // One reset, and no mark.
 fn reset_entry() -> Stepped
-    ensures { λ r. ⌜ r ≡ cleared ⌝ }
+    ensures { λ r. ⌜ r ≡ resetStep ⌝ }
 {
     Stepped {
         row: Row {
@@ -154,6 +155,20 @@ fn reset_entry() -> Stepped
             place: 0.0,
         },
         done: false,
+    }
+}
+
+// A seek to the end, and the mark.
+fn end_entry() -> Stepped
+    ensures { λ r. ⌜ r ≡ stepped (seekRow oneF) true ⌝ }
+{
+    Stepped {
+        row: Row {
+            kind: 8,
+            amount: 0.0,
+            place: 1.0,
+        },
+        done: true,
     }
 }
 
@@ -167,25 +182,11 @@ pub fn sync_entry(t: f32, e: Entry) -> Stepped
         return reset_entry();
     }
     if t >= end {
-        return Stepped {
-            row: Row {
-                kind: 8,
-                amount: 0.0,
-                place: 1.0,
-            },
-            done: true,
-        };
+        return end_entry();
     }
     let duration = e.duration;
     if duration == 0.0 {
-        return Stepped {
-            row: Row {
-                kind: 8,
-                amount: 0.0,
-                place: 1.0,
-            },
-            done: true,
-        };
+        return end_entry();
     }
     Stepped {
         row: Row {
@@ -232,9 +233,16 @@ pub fn both(a: bool, b: bool) -> bool
     if a { b } else { false }
 }
 
+// The lesser of two.
+pub fn least(a: usize, b: usize) -> usize
+    ensures { λ r. ⌜ r ≡ min a b ⌝ }
+{
+    if a < b { a } else { b }
+}
+
 // A row of a tick: what is not sent is 0.0.
 fn tick_row(reset: bool, update: bool, seek: bool, amount: f32, done: bool) -> Stepped
-    ensures { λ r. ⌜ r ≡ tickRow reset update seek amount done ⌝ }
+    ensures { λ r. ⌜ r ≡ stepped (row (kindOf reset update seek) (cond update amount zeroF) (cond seek oneF zeroF)) done ⌝ }
 {
     let kind = kind_of(reset, update, seek);
     let sent = pick(update, amount, 0.0);
@@ -249,35 +257,31 @@ fn tick_row(reset: bool, update: bool, seek: bool, amount: f32, done: bool) -> S
     }
 }
 
-// A tick from x to y of an entry that lasts; ended, where it comes to its end.
-fn tick_over(entered: bool, kept: bool, x: f32, y: f32, ended: bool, reply: u8) -> Stepped
-    ensures { λ r. ⌜ r ≡ tickedOver entered kept x y ended reply ⌝ }
+// Whether a step to next ends an entry: at its start, where it has no length.
+fn ends_by(next: f32, instant: bool, start: f32, end: f32) -> bool
+    ensures { λ r. ⌜ r ≡ cond instant (le start next) (le end next) ⌝ }
 {
-    let update = x < y;
-    let stopped = both(update, reply == 0);
-    let done = either(ended, either(stopped, kept));
-    tick_row(entered, update, ended, y - x, done)
+    if instant { next >= start } else { next >= end }
 }
 
-// A tick of an entry that has started; entered, where the tick starts it.
-fn tick_in(prev: f32, next: f32, e: Entry, reply: u8, entered: bool) -> Stepped
-    ensures { λ r. ⌜ r ≡ tickedIn prev next e reply entered ⌝ }
+// `tick_forward` for an entry that does not start after the step, test by test.
+fn tick_begun(prev: f32, next: f32, e: Entry, reply: u8) -> Stepped
+    requires { ⌜ lt next (e .start) ≡ false ⌝ }
+    ensures { λ r. ⌜ r ≡ ticked prev next e reply ⌝ }
 {
     let start = e.start;
     let duration = e.duration;
     let end = start + duration;
-    let outside = !entered;
-    let kept = both(outside, e.done);
-    if duration == 0.0 {
-        let begun = next >= start;
-        let done = either(begun, kept);
-        tick_row(entered, false, begun, 0.0, done)
-    } else {
-        let x = float32::max(prev, start);
-        let y = float32::min(next, end);
-        let ended = next >= end;
-        tick_over(entered, kept, x, y, ended, reply)
-    }
+    let entered = both(prev <= start, next >= start);
+    let instant = duration == 0.0;
+    let from = float32::max(prev, start);
+    let to = float32::min(next, end);
+    let updates = both(!instant, from < to);
+    let stopped = both(updates, reply == 0);
+    let ends = ends_by(next, instant, start, end);
+    let kept = both(!entered, e.done);
+    let done = either(ends, either(stopped, kept));
+    tick_row(entered, updates, ends, to - from, done)
 }
 
 // Whether a step forward lies inside the run of an entry that has a length: after its start and before its end.
@@ -299,10 +303,17 @@ fn runs_inside(prev: f32, next: f32, e: Entry) -> bool
 
 // The entry is updated by the whole step.
 fn tick_inside(prev: f32, next: f32, e: Entry, reply: u8) -> Stepped
-    ensures { λ r. ⌜ r ≡ tickRow false true false (sub binary32 next prev) (eqb reply 0 || e .done) ⌝ }
+    ensures { λ r. ⌜ r ≡ stepped (row 4 (sub binary32 next prev) zeroF) (eqb reply 0 || e .done) ⌝ }
 {
     let done = either(reply == 0, e.done);
-    tick_row(false, true, false, next - prev, done)
+    Stepped {
+        row: Row {
+            kind: 4,
+            amount: next - prev,
+            place: 0.0,
+        },
+        done,
+    }
 }
 
 // Whether the entry has ended before the step.
@@ -323,7 +334,8 @@ fn lies_behind(prev: f32, next: f32, e: Entry) -> bool
     }
 }
 
-// `tick_forward` for one entry, with its leaf's reply: 0 stopped, 1 running. Most steps lie inside the run, so these are told first.
+// `tick_forward` for one entry, with its leaf's reply: 0 stopped, 1 running. Most steps lie inside the run or behind it, so these are
+// told first.
 pub fn tick_entry(prev: f32, next: f32, e: Entry, reply: u8) -> Stepped
     ensures { λ r. ⌜ r ≡ ticked prev next e reply ⌝ }
 {
@@ -335,12 +347,9 @@ pub fn tick_entry(prev: f32, next: f32, e: Entry, reply: u8) -> Stepped
         return tick_inside(prev, next, e, reply);
     }
     if lies_behind(prev, next, e) {
-        return tick_row(false, false, true, 0.0, true);
+        return end_entry();
     }
-    let from = prev <= start;
-    let to = next >= start;
-    let entered = both(from, to);
-    tick_in(prev, next, e, reply, entered)
+    tick_begun(prev, next, e, reply)
 }
 
 // `reset`, and then synchronised.
@@ -370,3 +379,8 @@ pub fn step_entry(rule: Rule, e: Entry) -> Stepped
         Rule::Restart(t) => restart_entry(t, e),
     }
 }
+
+// The worked cases of specs/Cases.antt hold.
+pub fn claimed()
+    ensures { λ r. ⌜ T (allHold table) ⌝ }
+{}

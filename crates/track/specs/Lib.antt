@@ -1,5 +1,6 @@
 pub mod Tracks
+pub mod Columns
 pub mod Updates
 pub mod Calls
-pub mod Courses
+pub mod Answers
 pub mod Claims

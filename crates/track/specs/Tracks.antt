@@ -3,7 +3,7 @@ use Prim.Native.Nat.{ℕ}
 use mathlib.Core.Path.{_≡_}
 use mathlib.Core.Bool.{Bool, false, cond}
 use mathlib.Core.List.{List, [], _∷_, map}
-use lib.ListN.{take, replicate}
+use lib.ListN.{length, take, replicate}
 use lib.Ieee.{Float, binary32, div, eq}
 use Rattle.float32.specs.Helpers.{zeroF, oneF, clampF, finiteF}
 use Rattle.tween.specs.declared.loop_mode.Loop.{Loop}
@@ -28,6 +28,10 @@ emptyTrack = record { count = 0; entries = replicate maxEntries blank; clock = n
 -- the entries that count: a count past the array counts them all
 abbrev pub live : Track → List Entry
 live k = take (k .count) (k .entries)
+
+-- the track with these entries and no others
+abbrev pub withOnly : Track → List Entry → Track
+withOnly k es = record { count = length es; entries = es; clock = k .clock; looping = k .looping }
 
 -- the base: `Timeline::duration`
 abbrev pub trackBase : Track → Float
@@ -63,6 +67,10 @@ abbrev pub marks : List Entry → List Stepped → List Entry
 marks [] ss = []
 marks (e ∷ es) [] = []
 marks (e ∷ es) (s ∷ ss) = marked e (s .done) ∷ marks es ss
+
+-- the mark that each step leaves
+abbrev pub doneOf : List Stepped → List Bool
+doneOf = map (λ (s : Stepped). s .done)
 
 -- the rows of the steps
 abbrev pub rowsOf : List Stepped → List Row

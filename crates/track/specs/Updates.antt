@@ -4,17 +4,18 @@ use mathlib.Core.Bool.{Bool, true, false, not, _&&_, _||_, cond}
 use mathlib.Core.List.{List, [], _∷_, map}
 use lib.Dec.{ltb}
 use lib.ListN.{length, take, drop, getD}
-use lib.Ieee.{Float, le, eq}
+use lib.Ieee.{Float, eq}
 use Rattle.float32.specs.Helpers.{zeroF, minF}
+use Rattle.tween.specs.LoopMode.{isOnce}
 use Rattle.tween.specs.declared.loop_mode.Loop.{Loop}
-use Rattle.tween.specs.declared.loop_mode.Loop.the-variants.{Once, Times, Forever, PingPong, PingPongTimes}
 use Rattle.steps.specs.declared.Entry.{Entry}
 use Rattle.steps.specs.declared.Stepped.{Stepped}
 use Rattle.steps.specs.declared.Rule.the-variants.{Keep, Sync}
-use Rattle.steps.specs.Times.{localTime, runOf}
+use Rattle.steps.specs.Times.{localTime}
 use Rattle.steps.specs.Rows.{ticked, ruled}
-use Rattle.walk.specs.Completions.{keep, completionsBetween}
-use Rattle.clock.specs.Clocks.{nextElapsed}
+use Rattle.completions.specs.Completions.{keep, completionsBetween}
+use Rattle.clock.specs.declared.Reach.{Reach}
+use Rattle.clock.specs.Clocks.{nextElapsed, reachOf}
 use Rattle.track.specs.declared.track.Track.{Track}
 use Rattle.track.specs.Tracks.{live, trackBase}
 
@@ -38,53 +39,25 @@ newlyDone i [] ss = []
 newlyDone i (e ∷ es) [] = []
 newlyDone i (e ∷ es) (s ∷ ss) = keep (not (e .done) && s .done) i (newlyDone (suc i) es ss)
 
--- what an update comes to: each entry's step, the elapsed time, whether the run ends here, and the completed entries
+-- what an update that plays sends to each entry, which entries it completes, and where it comes to
 pub record Advance : Type 0 where
   pub steps : List Stepped
-  pub elapsed : Float
-  pub ended : Bool
   pub listed : List ℕ
+  pub reach : Reach
 
--- Once: a forward tick within the base
-unfoldable pub tickedTo : List Entry → Float → Float → Float → List ℕ → Advance
-tickedTo es base prev next rs =
-    let ss = ticks (minF prev base) (minF next base) es rs in
-    record { steps = ss; elapsed = minF next base; ended = le base next; listed = newlyDone 0 es ss }
+-- `match self.looping`, from prev to next: Once ticks within the base; the other modes list what completes on the way and synchronise
+unfoldable pub advanced : Loop → List Entry → Float → Float → Float → List ℕ → Advance
+advanced mode es base prev next rs =
+    let to = reachOf mode base next in
+    let ss = cond (isOnce mode) (ticks (minF prev base) (to .elapsed) es rs) (map (ruled (Sync (localTime mode base (to .elapsed)))) es) in
+    record { steps = ss; listed = cond (isOnce mode) (newlyDone 0 es ss) (completionsBetween mode es prev next); reach = to }
 
--- the other modes: synchronised to where it comes to
-unfoldable pub syncedTo : Loop → List Entry → Float → Float → Float → Float → Bool → Advance
-syncedTo mode es base prev next elapsed ended =
-    record {
-      steps = map (ruled (Sync (localTime mode base elapsed))) es;
-      elapsed = elapsed;
-      ended = ended;
-      listed = completionsBetween mode es prev next;
-    }
+-- a base of 0 ends the run where it stands, and no entry is sent anything
+abbrev pub endedAt : List Entry → Float → Advance
+endedAt es elapsed = record { steps = map (ruled Keep) es; listed = []; reach = record { elapsed = elapsed; ended = true } }
 
--- the mode that ticks
-abbrev pub isOnce : Loop → Bool
-isOnce Once = true
-isOnce (Times n) = false
-isOnce Forever = false
-isOnce PingPong = false
-isOnce (PingPongTimes n) = false
-
--- `update` while Playing, from prev to next, by the mode; a finite run bounds it and ends it
-abbrev pub advanced : Loop → List Entry → Float → Float → Float → List ℕ → Advance
-advanced Once es base prev next rs = tickedTo es base prev next rs
-advanced (Times n) es base prev next rs =
-    syncedTo (Times n) es base prev next (minF next (runOf (Times n) base)) (le (runOf (Times n) base) next)
-advanced Forever es base prev next rs = syncedTo Forever es base prev next next false
-advanced PingPong es base prev next rs = syncedTo PingPong es base prev next next false
-advanced (PingPongTimes n) es base prev next rs =
-    syncedTo (PingPongTimes n) es base prev next (minF next (runOf (PingPongTimes n) base)) (le (runOf (PingPongTimes n) base) next)
-
--- no entry is sent anything
-abbrev pub resting : List Entry → Float → Bool → Advance
-resting es elapsed ended = record { steps = map (ruled Keep) es; elapsed = elapsed; ended = ended; listed = [] }
-
--- `update` while Playing: a base of 0 completes at once
+-- `update` while Playing
 unfoldable pub playing : Track → Float → List ℕ → Advance
 playing k dt rs =
-    cond (eq (trackBase k) zeroF) (resting (live k) (k .clock .elapsed) true)
+    cond (eq (trackBase k) zeroF) (endedAt (live k) (k .clock .elapsed))
     (advanced (k .looping) (live k) (trackBase k) (k .clock .elapsed) (nextElapsed (k .clock) dt) rs)

@@ -1,3 +1,2 @@
-// What plays of a timeline: its entries, clock and loop mode, and the calls that move them. The names of entries are in crate timeline.
+// What plays of a timeline: its entries, clock and loop mode. Crate player plays it, and crate timeline has what its entries are called.
 pub mod track;
-pub mod update;

@@ -12,19 +12,19 @@ use Rattle.label.proofs.find.Statement.{statement}
 use Rattle.label.proofs.find.Tie as tie
 
 abbrev Inv-loop : tie.InvT-loop
-Inv-loop count name labels n k₀ k = (k ≤ n) × (n ≡ length (take count labels)) × (n ≤ maxEntries) × (firstWith name (take count labels) ≡ firstFrom k name (drop k (take count labels)))
+Inv-loop count target labels n k₀ k = (k ≤ n) × (n ≡ length (take count labels)) × (n ≤ maxEntries) × (firstWith target (take count labels) ≡ firstFrom k target (drop k (take count labels)))
 
 abbrev μ-loop : tie.MeasureT-loop
-μ-loop count name labels n k₀ k = n - k
+μ-loop count target labels n k₀ k = n - k
 
-at-most-requires : tie.Need-at-most-requires Inv-loop μ-loop
-at-most-requires c κs = search needs
+least-requires : tie.Need-least-requires Inv-loop μ-loop
+least-requires c κs = search needs
 
 loop-holds : tie.Need-loop-holds Inv-loop μ-loop
 loop-holds c =
     let g = c .before .before .args in
     let h : length (g .t1) ≡ maxEntries = search (unmapped, needs) in
-    let e = c .at-most .ensures in
+    let e = c .least .ensures in
     (omega arith, live-length (g .count) (g .t1) maxEntries _ h e, omega arith, refl)
 
 mul-l : tie.Need-mul-l Inv-loop μ-loop
@@ -65,7 +65,7 @@ find-spec =
     (tie.spec
     Inv-loop
     μ-loop
-    at-most-requires
+    least-requires
     loop-holds
     mul-l
     array-copy-out-l

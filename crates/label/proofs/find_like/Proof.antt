@@ -14,15 +14,15 @@ use Rattle.label.proofs.Live.{unmapped, live-length, live-at}
 use Rattle.label.proofs.find_like.Statement.{statement}
 use Rattle.label.proofs.find_like.Tie as tie
 
-at-most-requires : tie.Need-at-most-requires
-at-most-requires c κs = search needs
+least-requires : tie.Need-least-requires
+least-requires c κs = search needs
 
 -- how many labels count
-live : (c : tie.After-at-most) → c .at-most .result ≡ length (take (c .before .args .count) (c .before .args .t1))
+live : (c : tie.After-least) → c .least .result ≡ length (take (c .before .args .count) (c .before .args .t1))
 live c =
     let g = c .before .args in
     let h : length (g .t1) ≡ maxEntries = search (unmapped, needs) in
-    live-length (g .count) (g .t1) maxEntries _ h (c .at-most .ensures)
+    live-length (g .count) (g .t1) maxEntries _ h (c .least .ensures)
 
 returns : tie.Need-returns
 unfolding firstLike
@@ -65,7 +65,7 @@ pub find-like-spec : {M : Type 1} → statement M
 find-like-spec =
     tie.close
     (tie.spec
-    at-most-requires
+    least-requires
     returns
     mul-l
     array-copy-out-l

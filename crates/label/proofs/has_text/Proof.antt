@@ -24,7 +24,7 @@ same-text-requires c κs = search needs
 returns : tie.Need-returns
 returns c =
     let at = c .before .before .before in
-    c .same-text .ensures ∙ ap (λ (t : List ℕ). sameText t (now (at .before .before .args .name))) (at .text-len .ensures .0)
+    c .same-text .ensures ∙ ap (λ (t : List ℕ). sameText t (now (at .before .before .args .target))) (at .text-len .ensures .0)
 
 pub has-text-spec : {M : Type 1} → statement M
 has-text-spec =

@@ -11,24 +11,24 @@ use Rattle.label.proofs.label_of.Statement.{statement}
 use Rattle.label.proofs.label_of.Tie as tie
 
 abbrev Inv-loop : tie.InvT-loop
-Inv-loop name n bytes₀ i₀ bytes i = (i ≤ n) × (n ≡ length (take maxLabel name)) × (bytes ≡ filled maxLabel 0 i (take maxLabel name))
+Inv-loop label n bytes₀ i₀ bytes i = (i ≤ n) × (n ≡ length (take maxLabel label)) × (bytes ≡ filled maxLabel 0 i (take maxLabel label))
 
 abbrev μ-loop : tie.MeasureT-loop
-μ-loop name n bytes₀ i₀ bytes i = n - i
+μ-loop label n bytes₀ i₀ bytes i = n - i
 
-at-most-requires : tie.Need-at-most-requires Inv-loop μ-loop
-at-most-requires c κs = search needs
+least-requires : tie.Need-least-requires Inv-loop μ-loop
+least-requires c κs = search needs
 
 loop-holds : tie.Need-loop-holds Inv-loop μ-loop
 loop-holds c =
-    let m = c .at-most .ensures in
+    let m = c .least .ensures in
     (omega arith, simp length-take (omega arith), refl)
 
 shared-slice-read-bytes : tie.Need-shared-slice-read-bytes Inv-loop μ-loop
-shared-slice-read-bytes c = omega (arith, length-take maxLabel (c .before .before .before .before .before .args .name .now))
+shared-slice-read-bytes c = omega (arith, length-take maxLabel (c .before .before .before .before .before .args .label .now))
 
 array-write-bytes : tie.Need-array-write-bytes Inv-loop μ-loop
-array-write-bytes c = omega (arith, length-take maxLabel (c .before .before .before .before .before .args .name .now))
+array-write-bytes c = omega (arith, length-take maxLabel (c .before .before .before .before .before .args .label .now))
 
 add-i : tie.Need-add-i Inv-loop μ-loop
 add-i c = omega arith
@@ -39,20 +39,20 @@ loop-less c = omega arith
 loop-again : tie.Need-loop-again Inv-loop μ-loop
 loop-again c =
     let at = c .before .before in
-    let name = at .before .before .before .args .name .now in
-    let n = length-take maxLabel name in
-    let v = getD-take maxLabel name (at .loop .i) 0 (omega arith) in
-    (omega arith, at .loop .inv .1, filled-more maxLabel 0 (at .loop .i) (take maxLabel name) _ _ (omega arith) (omega arith) (sym v) (at .loop .inv .2))
+    let label = at .before .before .before .args .label .now in
+    let n = length-take maxLabel label in
+    let v = getD-take maxLabel label (at .loop .i) 0 (omega arith) in
+    (omega arith, at .loop .inv .1, filled-more maxLabel 0 (at .loop .i) (take maxLabel label) _ _ (omega arith) (omega arith) (sym v) (at .loop .inv .2))
 
 cast-t12 : tie.Need-cast-t12 Inv-loop μ-loop
-cast-t12 c = omega (arith, length-take maxLabel (c .before .before .before .before .args .name .now))
+cast-t12 c = omega (arith, length-take maxLabel (c .before .before .before .before .args .label .now))
 
 returns : tie.Need-returns Inv-loop μ-loop
 returns c =
-    let name = c .before .before .before .before .args .name .now in
-    let e : c .before .loop .i ≡ length (take maxLabel name) = omega arith in
+    let label = c .before .before .before .before .args .label .now in
+    let e : c .before .loop .i ≡ length (take maxLabel label) = omega arith in
     let b = c .before .loop .inv .2 in
-    cc (take-length (take maxLabel name))
+    cc (take-length (take maxLabel label))
 
 pub label-of-spec : {M : Type 1} → statement M
 label-of-spec =
@@ -60,7 +60,7 @@ label-of-spec =
     (tie.spec
     Inv-loop
     μ-loop
-    at-most-requires
+    least-requires
     loop-holds
     shared-slice-read-bytes
     array-write-bytes

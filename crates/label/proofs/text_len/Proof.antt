@@ -8,19 +8,19 @@ use Rattle.label.proofs.Text.{take-taken}
 use Rattle.label.proofs.text_len.Statement.{statement}
 use Rattle.label.proofs.text_len.Tie as tie
 
-cast-at-most : tie.Need-cast-at-most
-cast-at-most c = search needs
+cast-least : tie.Need-cast-least
+cast-least c = search needs
 
-at-most-requires : tie.Need-at-most-requires
-at-most-requires c κs = search needs
+least-requires : tie.Need-least-requires
+least-requires c κs = search needs
 
 returns : tie.Need-returns
 returns c =
     let l = c .before .before .args .l in
     let h : length (l .bytes) ≡ maxLabel = search needs in
-    let m = c .at-most .ensures in
-    let e : c .at-most .result ≡ length (text l) = simp length-take (omega arith) in
-    (rw e (take-taken (l .len) (l .bytes)), omega arith)
+    let m = c .least .ensures in
+    let e : c .least .result ≡ length (text l) = simp length-take (omega arith) in
+    (rw e (take-taken (l .len) (l .bytes)), omega arith, e)
 
 pub text-len-spec : {M : Type 1} → statement M
-text-len-spec = tie.close (tie.spec cast-at-most at-most-requires returns)
+text-len-spec = tie.close (tie.spec cast-least least-requires returns)

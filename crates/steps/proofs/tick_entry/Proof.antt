@@ -1,7 +1,7 @@
 -- `tick_entry` is `ticked`.
 use mathlib.Core.Path.{sym, _∙_}
 use Rattle.steps.specs.Rows.{ticked}
-use Rattle.steps.proofs.Tests.{yes, no}
+use Rattle.steps.proofs.Tests.{yes}
 use Rattle.steps.proofs.Inside.{ticked-inside, ticked-behind}
 use borrow.Author.Needs.{needs}
 use Rattle.steps.proofs.tick_entry.Statement.{statement}
@@ -28,23 +28,19 @@ returns-2 c =
 lies-behind-requires : tie.Need-lies-behind-requires
 lies-behind-requires c κs = search needs
 
-tick-row-requires : tie.Need-tick-row-requires
-tick-row-requires c κs = search needs
+end-entry-requires : tie.Need-end-entry-requires
+end-entry-requires c κs = search needs
 
 returns-3 : tie.Need-returns-3
 returns-3 c =
-    c .tick-row .ensures
+    c .end-entry .ensures
     ∙ sym (ticked-behind _ _ _ _ (c .before .before .before .before .before .if1 .left) (sym (c .before .before .lies-behind .ensures) ∙ c .before .if3 .taken))
 
-both-requires : tie.Need-both-requires
-both-requires c κs = search needs
-
-tick-in-requires : tie.Need-tick-in-requires
-tick-in-requires c κs = search needs
+tick-begun-requires : tie.Need-tick-begun-requires
+tick-begun-requires c κs = search needs
 
 returns-4 : tie.Need-returns-4
-unfolding ticked
-returns-4 c = no _ _ _ _ (c .before .before .before .before .before .before .if1 .left) (cc)
+returns-4 c = search needs
 
 pub tick-entry-spec : {M : Type 1} → statement M
 tick-entry-spec =
@@ -56,8 +52,7 @@ tick-entry-spec =
     tick-inside-requires
     returns-2
     lies-behind-requires
-    tick-row-requires
+    end-entry-requires
     returns-3
-    both-requires
-    tick-in-requires
+    tick-begun-requires
     returns-4)

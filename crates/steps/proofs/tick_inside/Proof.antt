@@ -6,11 +6,8 @@ use Rattle.steps.proofs.tick_inside.Tie as tie
 either-requires : tie.Need-either-requires
 either-requires c κs = search needs
 
-tick-row-requires : tie.Need-tick-row-requires
-tick-row-requires c κs = search needs
-
 returns : tie.Need-returns
 returns c = cc
 
 pub tick-inside-spec : {M : Type 1} → statement M
-tick-inside-spec = tie.close (tie.spec either-requires tick-row-requires returns)
+tick-inside-spec = tie.close (tie.spec either-requires returns)

@@ -1,5 +1,4 @@
--- `tick_row` is `tickRow`.
-use Rattle.steps.specs.Rows.{tickRow}
+-- `tick_row` makes the row of its parts.
 use borrow.Author.Needs.{needs}
 use Rattle.steps.proofs.tick_row.Statement.{statement}
 use Rattle.steps.proofs.tick_row.Tie as tie
@@ -14,7 +13,6 @@ pick-requires-2 : tie.Need-pick-requires-2
 pick-requires-2 c κs = search needs
 
 returns : tie.Need-returns
-unfolding tickRow
 returns c = cc
 
 pub tick-row-spec : {M : Type 1} → statement M

@@ -1,5 +1,0 @@
-pub mod Completions
-pub mod Answers
-pub mod Cases
-pub mod Prompt
-pub mod Claims
