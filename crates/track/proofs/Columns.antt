@@ -108,7 +108,7 @@ module _ (h : Playhead) (ss ds : List Float) (ms : List Bool) where
         rw (new, length-marks es xs le, take-length es, over-own es xs le)
 
     ends-own : map endAt (live k) ≡ endsIn n ss ds
-    ends-own = ap (map endAt) (sym own) ∙ ends-of n ss ds ms (roomy .2 .0)
+    ends-own = ap (map endAt) (sym own) ∙ ends-of n ss ds ms (roomy .2)
 
     -- the base
     pub based : {base : Float} → base ≡ foldl maxF zeroF (endsIn n ss ds) → base ≡ trackBase k
@@ -118,5 +118,5 @@ module _ (h : Playhead) (ss ds : List Float) (ms : List Bool) where
     pub completed : (mode : Loop) (prev next : Float) {base : Float} → base ≡ trackBase k → emptyAtNan prev next (completionsIn mode (endsIn (min n mostEntries) ss ds) base prev next) ≡ completionsBetween mode (live k) prev next
     unfolding completionsBetween
     completed mode prev next eb =
-        let most-own : min n mostEntries ≡ n = omega (arith, roomy .2 .1) in
+        let most-own : min n mostEntries ≡ n = omega (arith, roomy .3) in
         rw (eb, most-own, ends-own)

@@ -1,3 +1,6 @@
 pub mod Marks
 pub mod Columns
+pub mod Ticks
+pub mod Replies
 pub mod Trimmed
+pub mod Claims

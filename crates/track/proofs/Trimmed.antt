@@ -1,7 +1,7 @@
 -- Only the live entries count: a call on them alone, and the same call on the track.
 use Prim.Native.Nat.{ℕ, _≤_}
 use mathlib.Core.Path.{_≡_, refl, sym, ap, _∙_}
-use mathlib.Core.Bool.{Bool, true, false, cond}
+use mathlib.Core.Bool.{Bool, true, false, not, _||_, cond}
 use mathlib.Core.List.{List, [], map}
 use native.Mathlib.Omega.{arith}
 use lib.Dec.{ltb}
@@ -10,17 +10,19 @@ use lib.Seq.{take-length}
 use lib.Ieee.{Float}
 use Rattle.refusal.specs.Refusal.{accepted}
 use Rattle.steps.specs.declared.Entry.{Entry}
+use Rattle.steps.specs.declared.Row.{Row}
 use Rattle.steps.specs.declared.Stepped.{Stepped}
 use Rattle.steps.specs.declared.Rule.{Rule}
-use Rattle.steps.specs.declared.Rule.the-variants.{Keep}
+use Rattle.steps.specs.declared.Rule.the-variants.{Keep, Sync}
 use Rattle.steps.specs.Rows.{ruled}
 use Rattle.steps.specs.Slices.{over}
+use Rattle.steps.specs.Times.{baseOf, runOf, localTime}
 use Rattle.clock.specs.declared.Clock.{Clock}
-use Rattle.clock.specs.Clocks.{isPlaying, scaled, paused, resumed}
+use Rattle.clock.specs.Clocks.{isPlaying, isCompleted, scaled, played, playRule, paused, resumed, seekTo, shareIn, sought, fires, advancedClock}
 use Rattle.track.specs.declared.track.Track.{Track}
 use Rattle.track.specs.Tracks.{live, marks, rowsOf, moved}
 use Rattle.track.specs.Columns.{trimmed}
-use Rattle.track.specs.Updates.{repliesBad, Advance, playing}
+use Rattle.track.specs.Updates.{aboveOne, repliesBad, Advance, playing}
 use Rattle.track.specs.Calls.{Room, TrackCall, Looping, SetTimeScale, Play, Pause, Resume, Reset, Seek, SeekAbs, Update, Preview, TrackOut, trackSilent, refusedIf, short, sent, soughtTo, advancedTo, rested, updated, fitted, updatedWith, previewed, withClock, withLooping, trackStep}
 use Rattle.track.specs.Claims.{putBack, restored}
 use Rattle.track.proofs.Marks.{marks-within, length-over, over-over, over-part, take-over, over-all}
@@ -52,27 +54,42 @@ module _ (k : Track) where
   refused-whole true n o o′ e = silent-whole n
   refused-whole false n o o′ e = e
 
-  short-same : (r : Room) → short r t ≡ short r k
-  short-same r = rw same
+  -- what is worked out from the live entries, is from those of the trimmed track
+  along : (f : List Entry → TrackOut) → restored k (f (live k)) ≡ restored k (f (live t))
+  along f = ap (λ (es : List Entry). restored k (f es)) (sym same)
+
+  abbrev answer : Track → List Stepped → TrackOut
+  answer q ss = record { refusal = accepted; track = q; rows = rowsOf ss; running = false; completed = false; listed = [] }
+
+  abbrev shortIn : Room → List Entry → Bool
+  shortIn r es = ltb (r .kinds) (length es) || (ltb (r .amounts) (length es) || ltb (r .places) (length es))
 
   sent-whole : (c : Clock) (rule : Rule) (r : Room) → sent k c rule r ≡ restored k (sent t c rule r)
   unfolding sent
   sent-whole c rule r =
-      rw (same)
-      (refused-whole (short r k) 3 _ _
-      (ap (λ (q : Track). record { refusal = accepted; track = q; rows = rowsOf (map (ruled rule) (live k)); running = false; completed = false; listed = [] }) (back-moved c (map (ruled rule) (live k)))))
+      let ss = map (ruled rule) (live k) in
+      refused-whole (short r k) 3 (answer (moved k c ss) ss) (answer (moved t c ss) ss) (ap (λ (q : Track). answer q ss) (back-moved c ss))
+      ∙ along (λ (es : List Entry). refusedIf (shortIn r es) 3 t (answer (moved t c (map (ruled rule) es)) (map (ruled rule) es)))
 
   sought-whole : (secs : Float) (r : Room) → soughtTo k secs r ≡ restored k (soughtTo t secs r)
   unfolding soughtTo
-  sought-whole secs r = rw (same) (sent-whole _ _ r)
+  sought-whole secs r =
+      sent-whole _ _ r
+      ∙ along (λ (es : List Entry). sent t (sought (k .clock) (runOf (k .looping) (baseOf es)) (seekTo (runOf (k .looping) (baseOf es)) secs)) (Sync (localTime (k .looping) (baseOf es) (seekTo (runOf (k .looping) (baseOf es)) secs))) r)
 
   advanced-whole : (a : Advance) → advancedTo k a ≡ restored k (advancedTo t a)
   unfolding advancedTo
-  advanced-whole a = rw (back-moved _ (a .steps))
+  advanced-whole a =
+      let ended = a .reach .ended in
+      ap (λ (q : Track). record { refusal = accepted; track = q; rows = rowsOf (a .steps); running = not ended; completed = fires (k .clock) ended; listed = a .listed })
+      (back-moved (advancedClock (k .clock) (a .reach .elapsed) ended) (a .steps))
 
   rested-whole : rested k ≡ restored k (rested t)
   unfolding rested
-  rested-whole = rw (same, back-moved (k .clock) (map (ruled Keep) (live k)))
+  rested-whole =
+      let resting : Track → List Stepped → TrackOut = λ (q : Track) (ss : List Stepped). record { refusal = accepted; track = q; rows = rowsOf ss; running = not (isCompleted (k .clock .state)); completed = false; listed = [] } in
+      ap (λ (q : Track). resting q (map (ruled Keep) (live k))) (back-moved (k .clock) (map (ruled Keep) (live k)))
+      ∙ along (λ (es : List Entry). resting (moved t (k .clock) (map (ruled Keep) es)) (map (ruled Keep) es))
 
   playing-same : (dt : Float) (rs : List ℕ) → playing t dt rs ≡ playing k dt rs
   unfolding playing
@@ -92,22 +109,27 @@ module _ (k : Track) where
   updated-with-whole : (dt : Float) (rs : List ℕ) (places : ℕ) (r : Room) → updatedWith k dt rs places r ≡ restored k (updatedWith t dt rs places r)
   unfolding updatedWith
   updated-with-whole dt rs places r =
-      rw (same) (refused-whole (short r k) 3 _ _ (refused-whole (repliesBad rs k) 4 _ _ (fitted-whole places _ _ (updated-whole dt rs))))
+      let o = fitted places t (updated t dt rs) in
+      refused-whole (short r k) 3 _ (refusedIf (repliesBad rs k) 4 t o) (refused-whole (repliesBad rs k) 4 _ o (fitted-whole places _ _ (updated-whole dt rs)))
+      ∙ along (λ (es : List Entry). refusedIf (shortIn r es) 3 t (refusedIf (ltb (length rs) (length es) || aboveOne (take (length es) rs)) 4 t o))
 
   previewed-whole : (dt : Float) (r : Room) → previewed k dt r ≡ restored k (previewed t dt r)
   unfolding previewed
   previewed-whole dt r =
-      rw (same) (refused-whole (short r k) 3 _ _ (rw (updated-whole dt [], back)))
+      let shown : Track → List Row → TrackOut = λ (q : Track) (rs : List Row). record { refusal = accepted; track = q; rows = rs; running = false; completed = false; listed = [] } in
+      refused-whole (short r k) 3 (shown k (updated k dt [] .rows)) (shown t (updated t dt [] .rows))
+      (ap (λ (o : TrackOut). shown k (o .rows)) (updated-whole dt []) ∙ ap (λ (q : Track). shown q (updated t dt [] .rows)) (sym back))
+      ∙ along (λ (es : List Entry). refusedIf (shortIn r es) 3 t (shown t (updated t dt [] .rows)))
 
   pub whole : (call : TrackCall) → trackStep k call ≡ restored k (trackStep t call)
   unfolding trackStep
   whole (Looping mode) = ap (λ (q : Track). trackSilent accepted (withLooping q mode)) (sym back)
   whole (SetTimeScale scale) = ap (λ (q : Track). trackSilent accepted (withClock q (scaled (k .clock) scale))) (sym back)
-  whole (Play r) = rw (same) (sent-whole _ _ r)
+  whole (Play r) = sent-whole _ _ r ∙ along (λ (es : List Entry). sent t (played (k .clock) (baseOf es)) (playRule (k .looping) (k .clock) (baseOf es)) r)
   whole Pause = ap (λ (q : Track). trackSilent accepted (withClock q (paused (k .clock)))) (sym back)
   whole Resume = ap (λ (q : Track). trackSilent accepted (withClock q (resumed (k .clock)))) (sym back)
   whole (Reset r) = sent-whole _ _ r
-  whole (Seek share r) = rw (same) (sought-whole _ r)
+  whole (Seek share r) = sought-whole _ r ∙ along (λ (es : List Entry). soughtTo t (shareIn (baseOf es) (runOf (k .looping) (baseOf es)) share) r)
   whole (SeekAbs secs r) = sought-whole secs r
   whole (Update dt rs places r) = updated-with-whole dt rs places r
   whole (Preview dt r) = previewed-whole dt r
@@ -136,8 +158,8 @@ module _ (k : Track) where
   updated-sized dt rs = go (isPlaying (k .clock .state))
     where
       go : (b : Bool) → Sized k (cond b (advancedTo k (playing k dt rs)) (rested k) .track)
-      go true = moved-sized _ _
-      go false = moved-sized _ _
+      go true = moved-sized (advancedClock (k .clock) (playing k dt rs .reach .elapsed) (playing k dt rs .reach .ended)) (playing k dt rs .steps)
+      go false = moved-sized (k .clock) (map (ruled Keep) (live k))
 
   step-sized : (call : TrackCall) → Sized k (trackStep k call .track)
   unfolding trackStep soughtTo updatedWith previewed
