@@ -3,4 +3,5 @@ pub mod Columns
 pub mod Ticks
 pub mod Replies
 pub mod Trimmed
+pub mod Outcomes
 pub mod Claims
