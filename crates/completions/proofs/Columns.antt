@@ -31,10 +31,10 @@ all-at (s ∷ ss) (d ∷ ds) zero h k = refl
 all-at (s ∷ ss) (d ∷ ds) (suc i) h k = all-at ss ds i (le-of-suc-le-suc h) (le-of-suc-le-suc k)
 
 module _ (n : ℕ) (ss ds : List Float) where
-  -- as many as asked for, where both columns have them
   pub ends-counted : length (endsIn n ss ds) ≡ min n (min (length ss) (length ds))
   ends-counted = length-take n (endsOf ss ds) ∙ ap (min n) (all-long ss ds)
 
+  -- as many as asked for, where both columns have them
   pub ends-long : n ≤ length ss → n ≤ length ds → length (endsIn n ss ds) ≡ n
   ends-long h k = omega (arith, ends-counted)
 

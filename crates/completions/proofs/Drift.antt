@@ -1,6 +1,6 @@
 -- Numbers alone: how far the cycle numbers can drift, through four roundings of one part in 2 ^ 24 each. D is the count of units in 1. Assumes nothing.
 use mathlib.Core.Path.{_≡_, refl, sym, ap, _∙_}
-use Prim.Native.Nat.{ℕ, _+_, _-_, _*_, _<_, _≤_}
+use Prim.Native.Nat.{ℕ, _+_, _*_, _<_, _≤_}
 use native.Mathlib.Nat.{le-trans, le-of-eq, add-mul, one-mul, mul-one, mul-assoc, mul-comm, mul-left-comm, mul-le-mul-right, mul-le-mul-left, mul-pos, le-of-mul-le-mul-right}
 use native.Mathlib.Omega.{arith}
 use Rattle.float32.proofs.Near.{Near, near-times, near-is, near-more}

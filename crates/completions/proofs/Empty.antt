@@ -67,7 +67,7 @@ module _ (mode : Loop) (ends : List Float) (base prev next : Float) where
       (breaksAt (walkOf mode base prev next) (firstCycle (walkOf mode base prev next))) (firstCycle (walkOf mode base prev next)))
 
   -- the early returns
-  pub no-step : le next prev ≡ true → completionsIn mode ends base prev next ≡ []
+  no-step : le next prev ≡ true → completionsIn mode ends base prev next ≡ []
   unfolding completionsIn
   no-step s = rw s
 

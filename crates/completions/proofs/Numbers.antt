@@ -3,7 +3,7 @@ use mathlib.Core.Bool.{Bool, true, false, _||_}
 use mathlib.Core.List.{List, [], _∷_, _++_, map}
 use Prim.Native.Nat.{ℕ, zero, suc, _+_, _≤_, _<_, _^_}
 use native.Mathlib.Omega.{arith}
-use lib.ListN.{length, getD, length-map}
+use lib.ListN.{length, length-map}
 use lib.Ieee.{Float, isNan, le}
 use Rattle.float32.specs.Helpers.{zeroF}
 use Rattle.tween.specs.declared.loop_mode.Loop.{Loop}
@@ -53,9 +53,3 @@ unfolding completionsBetween
 completions-below mode es prev next =
     none-if-below (length es) (isNan prev || isNan next) (completionsIn mode (map endAt es) (baseOf es) prev next)
     (rw length-map at (completions-in-below mode (map endAt es) (baseOf es) prev next))
-
--- the same, place by place
-pub below-at : (n : ℕ) (xs : List ℕ) → AllBelow n xs → (k : ℕ) → k < length xs → getD xs k 0 < n
-below-at n [] a k h = let f : ⊥ = omega arith in absurd f
-below-at n (x ∷ xs) a zero h = a .0
-below-at n (x ∷ xs) a (suc k) h = below-at n xs (a .1) k (omega arith)

@@ -3,7 +3,7 @@ use mathlib.Core.Path.{_≡_, refl, ap, sym, subst, _∙_}
 use mathlib.Core.Logic.{_⊎_, inl, inr}
 use mathlib.Core.Bool.{Bool, true, false, _&&_, _||_, true≢false, or-true}
 use mathlib.Core.List.{List, [], _∷_, foldl, map}
-use Prim.Native.Nat.{ℕ, suc, _+_, _-_, _*_, _≤_, _<_}
+use Prim.Native.Nat.{ℕ, suc, _+_, _*_, _≤_, _<_}
 use native.Mathlib.Nat.{le-trans, le-of-eq, zero-lt-suc, mul-one, mul-pos, mul-le-mul-right}
 use native.Mathlib.Omega.{arith}
 use lib.Dec.{T, leb, eqb}

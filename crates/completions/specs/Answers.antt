@@ -1,4 +1,4 @@
--- What `completions` answers, and what it leaves in the lent list. Definitions only.
+-- What `between` answers, and what it leaves in the lent list. Definitions only.
 use Prim.Native.Nat.{ℕ}
 use mathlib.Core.Path.{_≡_}
 use mathlib.Core.Bool.{Bool, true, false, cond}

@@ -1,4 +1,4 @@
--- The text of a label that is made from a label.
+-- The text of a label that is made from bytes.
 use Prim.Native.Nat.{ℕ, zero, suc, _+_, _-_, _<_, _≤_}
 use mathlib.Core.Path.{_≡_, refl, ap, _∙_}
 use mathlib.Core.List.{List, [], _∷_, _++_, append-assoc}
@@ -13,7 +13,7 @@ use Rattle.label.specs.Label.{maxLabel, text, labelOf}
 pub text-of : (label : List ℕ) → text (labelOf label) ≡ take maxLabel label
 text-of label = take-append-seam (take maxLabel label) _
 
--- a label of up to 24 bytes is kept whole
+-- up to 24 bytes are kept whole
 pub text-whole : (label : List ℕ) → length label ≤ maxLabel → text (labelOf label) ≡ label
 text-whole label h = text-of label ∙ take-all maxLabel label h
 

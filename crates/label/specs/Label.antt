@@ -30,7 +30,7 @@ text l = take (l .len) (l .bytes)
 abbrev pub withText : List ℕ → Label
 withText t = record { bytes = t ++ replicate (maxLabel - length t) 0; len = length t }
 
--- the label whose text is the first 24 bytes of these
+-- the label whose text is the first 24 of these bytes
 abbrev pub labelOf : List ℕ → Label
 labelOf label = withText (take maxLabel label)
 

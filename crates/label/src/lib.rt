@@ -20,7 +20,7 @@ pub enum Found {
     Nothing,
 }
 
-// The label whose text is the first MAX_LABEL bytes of label.
+// The label whose text is the first MAX_LABEL of these bytes.
 pub fn label_of(label: &[u8]) -> Label
     ensures { λ r. ⌜ r ≡ labelOf (now (label .entry)) ⌝ }
 {

@@ -1,6 +1,6 @@
 -- Entries that stand in three columns, and the track that they make: the laws that each loop over columns cites.
-use Prim.Native.Nat.{ℕ, zero, suc, _+_, _<_, _≤_, min}
-use mathlib.Core.Path.{_≡_, refl, sym, ap, subst, _∙_}
+use Prim.Native.Nat.{ℕ, zero, suc, _<_, _≤_, min}
+use mathlib.Core.Path.{_≡_, refl, sym, ap, _∙_}
 use mathlib.Core.Bool.{Bool, false}
 use mathlib.Core.List.{List, [], _∷_, map, foldl}
 use native.Mathlib.Nat.{not-suc-le-zero, le-of-suc-le-suc}

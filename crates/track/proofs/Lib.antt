@@ -1,5 +1,6 @@
 pub mod Marks
 pub mod Columns
+pub mod Laid
 pub mod Ticks
 pub mod Replies
 pub mod Trimmed

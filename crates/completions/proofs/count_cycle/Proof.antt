@@ -22,7 +22,8 @@ abbrev μ-loop : tie.MeasureT-loop
 loop-holds : tie.Need-loop-holds Inv-loop μ-loop
 loop-holds c =
     let a = c .before .before .args in
-    (omega arith, omega arith, rw (rest-start (a .w) (a .start) (endsIn (a .n) (a .starts .now) (a .durations .now))) (omega arith))
+    let ends = endsIn (a .n) (a .starts .now) (a .durations .now) in
+    (omega arith, omega arith, rw (rest-start (a .w) (a .start) ends) (omega arith))
 
 mul-completes-in : tie.Need-mul-completes-in Inv-loop μ-loop
 mul-completes-in c = search needs

@@ -38,9 +38,10 @@ sub-if1 c = search needs
 returns : tie.Need-returns Inv-loop μ-loop
 returns c =
     let a = c .before .before .before .before .before .before .before .before .args in
+    let ends = endsIn (a .n) (a .starts .now) (a .durations .now) in
     let l = c .before .before .before .before .loop in
-    let e = turn (a .w) (endsIn (a .n) (a .starts .now) (a .durations .now)) (l .cycle) (not-true (l .stop) (c .before .before .before .loop-test .taken)) (c .before .before .cycle-start .ensures) refl refl in
-    simp (lt-leb (length (cyclesFrom (a .w) (endsIn (a .n) (a .starts .now) (a .durations .now)) (a .first))) (a .room) (omega (arith, simp length-append at (ap length e))))
+    let e = turn (a .w) ends (l .cycle) (not-true (l .stop) (c .before .before .before .loop-test .taken)) (c .before .before .cycle-start .ensures) refl refl in
+    simp (lt-leb (length (cyclesFrom (a .w) ends (a .first))) (a .room) (omega (arith, simp length-append at (ap length e))))
 
 add-m : tie.Need-add-m Inv-loop μ-loop
 add-m c = search needs
@@ -54,22 +55,25 @@ stops-at-requires c κs = search needs
 loop-less : tie.Need-loop-less Inv-loop μ-loop
 loop-less c =
     let a = c .before .before .before .before .before .before .before .before .before .before .args in
+    let ends = endsIn (a .n) (a .starts .now) (a .durations .now) in
     let l = c .before .before .before .before .before .before .loop in
-    turns-less (a .w) (endsIn (a .n) (a .starts .now) (a .durations .now)) (a .room - l .m) _ (l .cycle) (not-true (l .stop) (c .before .before .before .before .before .loop-test .taken))
+    turns-less (a .w) ends (a .room - l .m) _ (l .cycle) (not-true (l .stop) (c .before .before .before .before .before .loop-test .taken))
     (c .before .before .before .before .cycle-start .ensures) (c .before .before .before .count-cycle .ensures) (omega arith) (omega arith) (c .before .next-cycle .ensures) (c .stops-at .ensures)
 
 loop-again : tie.Need-loop-again Inv-loop μ-loop
 loop-again c =
     let a = c .before .before .before .before .before .before .before .before .before .before .args in
+    let ends = endsIn (a .n) (a .starts .now) (a .durations .now) in
     let l = c .before .before .before .before .before .before .loop in
-    let e = turn (a .w) (endsIn (a .n) (a .starts .now) (a .durations .now)) (l .cycle) (not-true (l .stop) (c .before .before .before .before .before .loop-test .taken)) (c .before .before .before .before .cycle-start .ensures) (c .before .next-cycle .ensures) (c .stops-at .ensures) in
+    let e = turn (a .w) ends (l .cycle) (not-true (l .stop) (c .before .before .before .before .before .loop-test .taken)) (c .before .before .before .before .cycle-start .ensures) (c .before .next-cycle .ensures) (c .stops-at .ensures) in
     (omega arith, omega (arith, simp length-append at (ap length e)), rw (c .before .next-cycle .ensures) (omega arith))
 
 returns-2 : tie.Need-returns-2 Inv-loop μ-loop
 returns-2 c =
     let a = c .before .before .before .before .before .args in
+    let ends = endsIn (a .n) (a .starts .now) (a .durations .now) in
     let l = c .before .loop in
-    let e : l .m ≡ length (cyclesFrom (a .w) (endsIn (a .n) (a .starts .now) (a .durations .now)) (a .first)) = omega (arith, ap length (cycles-stop (a .w) (endsIn (a .n) (a .starts .now) (a .durations .now)) (2 ^ 32) (l .cycle)), rw (not-false (l .stop) (c .loop-test .left)) at (l .inv .1)) in
+    let e : l .m ≡ length (cyclesFrom (a .w) ends (a .first)) = omega (arith, ap length (cycles-stop (a .w) ends (2 ^ 32) (l .cycle)), rw (not-false (l .stop) (c .loop-test .left)) at (l .inv .1)) in
     rw (← e, le-leb (l .m) (a .room) (l .inv .0))
 
 pub count-from-spec : {M : Type 1} → statement M

@@ -1,5 +1,5 @@
 -- `held` is how many ends there are: the least of count and the columns' lengths.
-use mathlib.Core.Path.{_≡_, ap, sym, _∙_}
+use mathlib.Core.Path.{ap, sym, _∙_}
 use Prim.Native.Nat.{min}
 use borrow.Author.Needs.{needs}
 use Rattle.completions.proofs.Columns.{ends-counted}

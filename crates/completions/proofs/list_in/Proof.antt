@@ -10,7 +10,8 @@ returns : tie.Need-returns
 returns c =
     let start = c .before .before .before .before in
     let a = start .args in
-    none-listed _ _ (no-base (a .mode) (endsIn (a .n) (a .starts .now) (a .durations .now)) (a .base) (a .prev) (a .next) (start .pre .3) (c .if1 .taken))
+    let ends = endsIn (a .n) (a .starts .now) (a .durations .now) in
+    none-listed _ _ (no-base (a .mode) ends (a .base) (a .prev) (a .next) (start .pre .3) (c .if1 .taken))
 
 walk-of-requires : tie.Need-walk-of-requires
 walk-of-requires c κs = search needs
@@ -19,7 +20,8 @@ returns-2 : tie.Need-returns-2
 returns-2 c =
     let start = c .before .before .before .before .before .before in
     let a = start .args in
-    none-listed _ _ (no-period (a .mode) (endsIn (a .n) (a .starts .now) (a .durations .now)) (a .base) (a .prev) (a .next) (start .pre .3) (c .before .before .if1 .left) _ (c .before .walk-of .ensures) (c .if2 .taken))
+    let ends = endsIn (a .n) (a .starts .now) (a .durations .now) in
+    none-listed _ _ (no-period (a .mode) ends (a .base) (a .prev) (a .next) (start .pre .3) (c .before .before .if1 .left) _ (c .before .walk-of .ensures) (c .if2 .taken))
 
 first-cycle-requires : tie.Need-first-cycle-requires
 first-cycle-requires c κs = search needs
@@ -34,7 +36,8 @@ returns-3 : tie.Need-returns-3
 returns-3 c =
     let start = c .before .before .before .before .before .before .before .before .before .before .before in
     let a = start .args in
-    rw (walked (a .mode) (endsIn (a .n) (a .starts .now) (a .durations .now)) (a .base) (a .prev) (a .next) (start .pre .3) (c .before .before .before .before .before .before .before .if1 .left) _ (c .before .before .before .before .before .before .walk-of .ensures) (c .before .before .before .before .before .if2 .left) _ (c .before .before .before .before .first-cycle .ensures))
+    let ends = endsIn (a .n) (a .starts .now) (a .durations .now) in
+    rw (walked (a .mode) ends (a .base) (a .prev) (a .next) (start .pre .3) (c .before .before .before .before .before .before .before .if1 .left) _ (c .before .before .before .before .before .before .walk-of .ensures) (c .before .before .before .before .before .if2 .left) _ (c .before .before .before .before .first-cycle .ensures))
     (c .before .before .list-from .ensures)
 
 pub list-in-spec : {M : Type 1} → statement M

@@ -38,8 +38,10 @@ cycle-start-requires c κs = search needs
 write-cycle-requires : tie.Need-write-cycle-requires Inv-loop μ-loop
 write-cycle-requires c κs =
     let start = c .before .before .before .before .before .before .before .before in
+    let a = start .args in
+    let ends = endsIn (a .n) (a .starts .now) (a .durations .now) in
     let l = c .before .before .before .loop in
-    let e = turn (start .args .w) (endsIn (start .args .n) (start .args .starts .now) (start .args .durations .now)) (l .cycle) (not-true (l .stop) (c .before .before .loop-test .taken)) (c .before .cycle-start .ensures) refl refl in
+    let e = turn (a .w) ends (l .cycle) (not-true (l .stop) (c .before .before .loop-test .taken)) (c .before .cycle-start .ensures) refl refl in
     (start .pre .0, start .pre .1, start .pre .2, omega (arith, start .pre, simp length-append at (ap length e)))
 
 next-cycle-requires : tie.Need-next-cycle-requires Inv-loop μ-loop
@@ -51,23 +53,27 @@ stops-at-requires c κs = search needs
 loop-less : tie.Need-loop-less Inv-loop μ-loop
 loop-less c =
     let a = c .before .before .before .before .before .before .before .before .before .before .before .before .before .args in
+    let ends = endsIn (a .n) (a .starts .now) (a .durations .now) in
     let l = c .before .before .before .before .before .before .before .before .loop in
     let s = c .before .before .before .before .before .before .cycle-start in
-    let e = turn (a .w) (endsIn (a .n) (a .starts .now) (a .durations .now)) (l .cycle) (not-true (l .stop) (c .before .before .before .before .before .before .before .loop-test .taken)) (s .ensures) (c .before .next-cycle .ensures) (c .stops-at .ensures) in
+    let e = turn (a .w) ends (l .cycle) (not-true (l .stop) (c .before .before .before .before .before .before .before .loop-test .taken)) (s .ensures) (c .before .next-cycle .ensures) (c .stops-at .ensures) in
     let k = simp length-append at (ap length e) in
-    turns-less (a .w) (endsIn (a .n) (a .starts .now) (a .durations .now)) (length (cycles (a .w) (endsIn (a .n) (a .starts .now) (a .durations .now)) (2 ^ 32) (l .stop) (l .cycle))) _ (l .cycle) (not-true (l .stop) (c .before .before .before .before .before .before .before .loop-test .taken))
+    turns-less (a .w) ends (length (cycles (a .w) ends (2 ^ 32) (l .stop) (l .cycle))) _ (l .cycle) (not-true (l .stop) (c .before .before .before .before .before .before .before .loop-test .taken))
     (s .ensures) refl (omega (arith, k)) (omega (arith, k)) (c .before .next-cycle .ensures) (c .stops-at .ensures)
 
 loop-again : tie.Need-loop-again Inv-loop μ-loop
 loop-again c =
     let a = c .before .before .before .before .before .before .before .before .before .before .before .before .before .args in
+    let ends = endsIn (a .n) (a .starts .now) (a .durations .now) in
     let l = c .before .before .before .before .before .before .before .before .loop in
     let s = c .before .before .before .before .before .before .cycle-start in
     let w = c .before .before .before .before .write-cycle in
-    let e = turn (a .w) (endsIn (a .n) (a .starts .now) (a .durations .now)) (l .cycle) (not-true (l .stop) (c .before .before .before .before .before .before .before .loop-test .taken)) (s .ensures) (c .before .next-cycle .ensures) (c .stops-at .ensures) in (
-      rw (w .ensures .1, length-sets) (l .inv .0),
+    let e = turn (a .w) ends (l .cycle) (not-true (l .stop) (c .before .before .before .before .before .before .before .loop-test .taken)) (s .ensures) (c .before .next-cycle .ensures) (c .stops-at .ensures) in
+    let these = inCycle (a .w) (s .result) 0 ends in
+    let stored : w .last .1 .1 .1 .1 .1 .0 ≡ sets (l .list) (l .m) these = w .ensures .1 in (
+      ap length stored ∙ length-sets (l .list) (l .m) these ∙ l .inv .0,
       omega (arith, w .ensures .0, simp length-append at (ap length e)),
-      store-run (l .list) (l .m) _ _ (inCycle (a .w) (s .result) 0 (endsIn (a .n) (a .starts .now) (a .durations .now))) (cycles (a .w) (endsIn (a .n) (a .starts .now) (a .durations .now)) (2 ^ 32) (c .stops-at .result) (c .before .next-cycle .result)) _ (w .ensures .1) (w .ensures .0) e ∙ l .inv .2,
+      store-run (l .list) (l .m) _ (w .result) these (cycles (a .w) ends (2 ^ 32) (c .stops-at .result) (c .before .next-cycle .result)) _ stored (w .ensures .0) e ∙ l .inv .2,
       rw (c .before .next-cycle .ensures) (omega arith),
     )
 
@@ -78,9 +84,10 @@ returns : tie.Need-returns Inv-loop μ-loop
 returns c =
     let start = c .before .before .before .before .before .before in
     let a = start .args in
+    let ends = endsIn (a .n) (a .starts .now) (a .durations .now) in
     let l = c .before .loop in
-    let z : cycles (a .w) (endsIn (a .n) (a .starts .now) (a .durations .now)) (2 ^ 32) (l .stop) (l .cycle) ≡ [] = rw (not-false (l .stop) (c .loop-test .left)) (cycles-stop (a .w) (endsIn (a .n) (a .starts .now) (a .durations .now)) (2 ^ 32) (l .cycle)) in
-    (rw z at (l .inv .2)) ∙ store-all (cyclesFrom (a .w) (endsIn (a .n) (a .starts .now) (a .durations .now)) (a .first)) (a .list .now) (start .pre .3)
+    let z : cycles (a .w) ends (2 ^ 32) (l .stop) (l .cycle) ≡ [] = rw (not-false (l .stop) (c .loop-test .left)) (cycles-stop (a .w) ends (2 ^ 32) (l .cycle)) in
+    (rw z at (l .inv .2)) ∙ store-all (cyclesFrom (a .w) ends (a .first)) (a .list .now) (start .pre .3)
 
 pub write-from-spec : {M : Type 1} → statement M
 write-from-spec =

@@ -7,15 +7,14 @@ use Rattle.steps.proofs.Lists.{unmapped}
 use Rattle.track.proofs.track.Track.entry_count.Statement.{statement}
 use Rattle.track.proofs.track.Track.entry_count.Tie as tie
 
+least-requires : tie.Need-least-requires
+least-requires c κs = search needs
+
 returns : tie.Need-returns
 returns c =
-    let h : length (c .before .args .self .entries) ≡ 64 = search (unmapped, needs) in
-    simp length-take (omega arith)
-
-returns-2 : tie.Need-returns-2
-returns-2 c =
-    let h : length (c .before .args .self .entries) ≡ 64 = search (unmapped, needs) in
-    simp length-take (omega arith)
+    let k = c .before .args .self in
+    let h : length (k .entries) ≡ 64 = search (unmapped, needs) in
+    omega (arith, h, c .least .ensures, length-take (k .count) (k .entries))
 
 pub entry-count-spec : {M : Type 1} → statement M
-entry-count-spec = tie.close (tie.spec returns returns-2)
+entry-count-spec = tie.close (tie.spec least-requires returns)
