@@ -252,6 +252,19 @@ impl Clock {
         }
     }
 
+    // The clock, written field by field: a copy of the whole would wait for fields written just before.
+    pub fn kept(self) -> Clock
+        ensures { λ r. ⌜ r ≡ self ⌝ }
+    {
+        let state = self.state;
+        Clock {
+            elapsed: self.elapsed,
+            state,
+            time_scale: self.time_scale,
+            complete_fired: self.complete_fired,
+        }
+    }
+
     // `play`, with this base.
     pub fn played(self, base: f32) -> Clock
         ensures { λ r. ⌜ r ≡ played self base ⌝ }

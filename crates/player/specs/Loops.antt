@@ -2,18 +2,15 @@
 use denote.Ref.{now}
 use Prim.Native.Nat.{ℕ}
 use mathlib.Core.Path.{_≡_}
-use mathlib.Core.Bool.{Bool, cond, _||_}
+use mathlib.Core.Bool.{Bool}
 use mathlib.Core.List.{List}
-use lib.Dec.{ltb}
-use lib.ListN.{length, take}
 use lib.Ieee.{Float}
-use Rattle.refusal.specs.Refusal.{accepted, rowsTooShort, badReplies}
 use Rattle.steps.specs.declared.Entry.{Entry}
 use Rattle.steps.specs.declared.Stepped.{Stepped}
 use Rattle.steps.specs.Slices.{over}
 use Rattle.track.specs.Tracks.{doneOf, rowsOf, Sent}
 use Rattle.track.specs.Columns.{firstOf}
-use Rattle.track.specs.Updates.{aboveOne, ticks, newlyDone}
+use Rattle.track.specs.Updates.{ticks, newlyDone}
 use Rattle.track.specs.Answers.{Lent}
 
 -- the first n entries of the columns, as they were lent
@@ -33,8 +30,3 @@ abbrev pub SentTo : List Stepped → Lent Bool → Lent ℕ → Lent Float → L
 SentTo ss marks kinds amounts places =
     (now (marks .exit) ≡ over (doneOf ss) (now (marks .entry)))
     × Sent (rowsOf ss) (now (kinds .entry)) (now (kinds .exit)) (now (amounts .entry)) (now (amounts .exit)) (now (places .entry)) (now (places .exit))
-
--- 3 or 4, in this order, for n entries and row slices of these lengths; else 0
-abbrev pub checkedBy : ℕ → List ℕ → ℕ → ℕ → ℕ → ℕ
-checkedBy n rs kinds amounts places =
-    cond (ltb kinds n || (ltb amounts n || ltb places n)) rowsTooShort (cond (ltb (length rs) n || aboveOne (take n rs)) badReplies accepted)

@@ -3,11 +3,11 @@ use steps::Entry;
 use steps::Rule;
 use steps::Stepped;
 ghost use mathlib.Core.Path.{_≡_};
-ghost use mathlib.Core.Bool.{not, _&&_};
+ghost use mathlib.Core.Bool.{false, not, _&&_};
 ghost use mathlib.Core.List.{[], map};
 ghost use Prim.Native.Nat.{_+_, _<_, _≤_};
 ghost use lib.Dec.{ltb};
-ghost use lib.ListN.{length};
+ghost use lib.ListN.{length, getD, set};
 ghost use lib.Seq.{sets};
 ghost use Rattle.steps.specs.Rows.{ruled};
 ghost use Rattle.steps.specs.Slices.{over};
@@ -105,12 +105,23 @@ pub(crate) fn outnumber(
     room < count_done(n, prev, next, starts, durations, marks, replies)
 }
 
-// Lists the number i at the place at, if it is newly done; says where the next one goes.
-fn note(list: &mut [u8], at: usize, newly: bool, i: usize) -> usize
-    requires { ⌜ (i < mostEntries) × (at + length (keep newly i []) ≤ length (now list)) ⌝ }
-    ensures { λ r. ⌜ (r ≡ at + length (keep newly i [])) × (now (list .exit) ≡ sets (now (list .entry)) at (keep newly i [])) ⌝ }
+// Marks the entry i, and lists it at the place at, if it is newly done; says where the next one goes. Most marks stay.
+fn note(
+    marks: &mut [bool],
+    list: &mut [u8],
+    at: usize,
+    i: usize,
+    was: bool,
+    done: bool,
+) -> usize
+    requires { ⌜ (i < mostEntries) × (i < length (now marks)) × (getD (now marks) i false ≡ was) × (at + length (keep (not was && done) i []) ≤ length (now list)) ⌝ }
+    ensures { λ r. ⌜ (r ≡ at + length (keep (not was && done) i [])) × (now (list .exit) ≡ sets (now (list .entry)) at (keep (not was && done) i [])) × (now (marks .exit) ≡ set (now (marks .entry)) i done) ⌝ }
 {
-    if newly {
+    if done == was {
+        return at;
+    }
+    marks[i] = done;
+    if done {
         list[at] = i as u8;
         return at + 1;
     }
@@ -149,8 +160,7 @@ pub(crate) fn tick(
         kinds[i] = row.kind;
         amounts[i] = row.amount;
         places[i] = row.place;
-        marks[i] = s.done;
-        listed = note(list, listed, newly_done(e, s), i);
+        listed = note(marks, list, listed, i, e.done, s.done);
         i += 1;
     }
     listed

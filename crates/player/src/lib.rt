@@ -1,4 +1,4 @@
 // Plays a track whose entries stand in three lent columns, in place (timeline.rs; paper 01, part 4 and "A panel").
-// Each call takes a playhead and the columns, and answers the clock to go on with: `head.with_clock(clock)`.
+// A call takes a playhead and the columns, and answers the clock to go on with: `head.with_clock(r.clock)`.
 pub mod engine;
-pub mod entries;
+mod entries;

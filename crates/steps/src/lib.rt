@@ -220,7 +220,7 @@ fn pick(choice: bool, x: f32, y: f32) -> f32
 }
 
 // `a || b`
-fn either(a: bool, b: bool) -> bool
+pub fn either(a: bool, b: bool) -> bool
     ensures { λ r. ⌜ r ≡ (a || b) ⌝ }
 {
     if a { true } else { b }

@@ -79,9 +79,13 @@ impl Playhead {
     pub fn with_clock(self, clock: Clock) -> Playhead
         ensures { λ r. ⌜ r ≡ withClockAt self clock ⌝ }
     {
-        let mut q = self;
-        q.clock = clock;
-        q
+        let c = clock.kept();
+        let mode = self.looping;
+        Playhead {
+            count: self.count,
+            clock: c,
+            looping: mode,
+        }
     }
 }
 

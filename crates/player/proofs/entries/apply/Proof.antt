@@ -1,17 +1,15 @@
-use Prim.Native.Nat.{ℕ, _-_, _+_, _≤_, _<_}
-use mathlib.Core.Path.{_≡_, refl, sym, ap, _∙_}
-use mathlib.Core.Bool.{Bool, not, _&&_}
-use mathlib.Core.List.{List, map}
-use mathlib.Core.Logic.{⊎-elim}
+use Prim.Native.Nat.{_-_}
+use mathlib.Core.Path.{_≡_, sym, ap, _∙_}
+use mathlib.Core.List.{map}
 use native.Mathlib.Omega.{arith}
 use borrow.Author.Needs.{needs}
-use lib.ListN.{length, getD, length-map}
-use lib.Ieee.{nan}
+use lib.ListN.{length, length-map}
 use Rattle.steps.specs.Rows.{ruled}
 use Rattle.steps.proofs.Lists.{map-at}
 use Rattle.track.proofs.Marks.{noEntry, noStep}
 use Rattle.track.specs.Columns.{firstOf}
-use Rattle.player.proofs.Loops.{length-first, Kept, none-kept, next-kept, one-kept, all-kept}
+use Rattle.track.proofs.Columns.{length-first}
+use Rattle.player.proofs.Loops.{Kept, none-kept, next-kept, one-kept, all-kept}
 use Rattle.player.proofs.entries.apply.Statement.{statement}
 use Rattle.player.proofs.entries.apply.Tie as tie
 

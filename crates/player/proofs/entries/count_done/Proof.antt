@@ -1,36 +1,20 @@
 use Prim.Native.Nat.{ℕ, _-_, _+_, _≤_, _<_}
-use mathlib.Core.Path.{_≡_, refl, sym, ap, subst, _∙_}
-use mathlib.Core.Bool.{Bool, true, false, not, _&&_, and-false}
-use mathlib.Core.List.{List, [], map}
+use mathlib.Core.Path.{_≡_, sym, ap, _∙_}
+use mathlib.Core.Bool.{not, _&&_}
+use mathlib.Core.List.{List}
 use mathlib.Core.Logic.{⊎-elim}
 use native.Mathlib.Omega.{arith}
 use borrow.Author.Needs.{needs}
-use borrow.Author.Tests.{not-true, not-false, le-ltb, ltb-false}
-use lib.Dec.{ltb}
-use lib.ListN.{length, getD, length-map}
-use lib.Ieee.{Float, nan, eq}
+use lib.ListN.{length, getD}
 use denote.Ref.{now}
-use Rattle.float32.specs.Helpers.{zeroF}
 use Rattle.steps.specs.declared.Entry.{Entry}
 use Rattle.steps.specs.declared.Stepped.{Stepped}
-use Rattle.steps.specs.declared.Rule.the-variants.{Keep, Clear, Sync}
-use Rattle.clock.specs.declared.Clock.{Clock}
-use Rattle.clock.specs.Clocks.{isPlaying}
-use Rattle.completions.specs.Answers.{Listed}
-use Rattle.track.specs.declared.track.Track.{Track}
-use Rattle.track.specs.declared.update.Answer.{Answer}
-use Rattle.track.specs.Tracks.{live, trackBase}
-use Rattle.track.specs.Updates.{ticks, newlyDone, isOnce}
-use Rattle.track.specs.Calls.{roomOf, advancedTo, rested}
-use Rattle.track.specs.Courses.{answered, reachedFrom, ticksFrom}
-use Rattle.track.proofs.Marks.{noEntry, noStep, withEntries}
-use Rattle.track.proofs.Ticks.{length-ticks, turn-at, rest, rest-start, rest-end, rest-turn, newly-most, Listing, none-listed, room-listed, one-listed, all-listed}
-use Rattle.track.proofs.Checks.{checks-passed, room-for, replies-left, unchecked, accepting, short-same}
-use Rattle.track.proofs.Updating.{tick-refused, tick-answered}
-use Rattle.track.proofs.Sending.{answers-same, refused, accepted}
-use Rattle.track.proofs.Courses.{not-in, not-playing, any-replies, out-tick, out-rest, out-zero, out-sync, rule-rest, rule-zero, rule-sync, fits-coursed, within-coursed, outnumbered, course-refused, course-answered}
-use Rattle.player.specs.Columns.{entriesOf, firstOf, trackOf, mostEntries}
-use Rattle.player.proofs.Loops.{length-first, first-at, Kept, none-kept, next-kept, one-kept, all-kept, counted, roomy, own, applied, based, listed-own, ticked-own, play-sent, reset-sent, abs-sent, part-sent, answer-reached, answer-stopped, answered-same, off-mode, off-zero, on-once}
+use Rattle.track.specs.Updates.{ticks, newlyDone}
+use Rattle.track.proofs.Marks.{noEntry, noStep}
+use Rattle.track.proofs.Ticks.{length-ticks, turn-at, rest, rest-start, rest-end, rest-turn}
+use Rattle.track.specs.Columns.{firstOf}
+use Rattle.track.proofs.Columns.{length-first, first-at}
+
 use Rattle.player.proofs.entries.count_done.Statement.{statement}
 use Rattle.player.proofs.entries.count_done.Tie as tie
 
