@@ -206,6 +206,19 @@ pub fn reach_of(mode: Loop, base: f32, next: f32) -> Reach
 }
 
 impl Clock {
+    // The clock, written field by field: a copy of the whole would wait for fields written just before.
+    pub fn kept(self) -> Clock
+        ensures { λ r. ⌜ r ≡ self ⌝ }
+    {
+        let state = self.state;
+        Clock {
+            elapsed: self.elapsed,
+            state,
+            time_scale: self.time_scale,
+            complete_fired: self.complete_fired,
+        }
+    }
+
     // The clock in another state.
     fn with_state(self, state: TimelineState) -> Clock
         ensures { λ r. ⌜ r ≡ withState self state ⌝ }
@@ -252,19 +265,6 @@ impl Clock {
         }
     }
 
-    // The clock, written field by field: a copy of the whole would wait for fields written just before.
-    pub fn kept(self) -> Clock
-        ensures { λ r. ⌜ r ≡ self ⌝ }
-    {
-        let state = self.state;
-        Clock {
-            elapsed: self.elapsed,
-            state,
-            time_scale: self.time_scale,
-            complete_fired: self.complete_fired,
-        }
-    }
-
     // `play`, with this base.
     pub fn played(self, base: f32) -> Clock
         ensures { λ r. ⌜ r ≡ played self base ⌝ }
@@ -305,6 +305,7 @@ impl Clock {
             complete_fired: self.complete_fired,
         }
     }
+
     // The elapsed time to which `update` would go, in a run without end.
     pub fn next_elapsed(self, dt: f32) -> f32
         ensures { λ r. ⌜ r ≡ nextElapsed self dt ⌝ }
@@ -332,9 +333,13 @@ impl Clock {
                 complete_fired: true,
             }
         } else {
-            let mut c = self;
-            c.elapsed = elapsed;
-            c
+            let state = self.state;
+            Clock {
+                elapsed,
+                state,
+                time_scale: self.time_scale,
+                complete_fired: self.complete_fired,
+            }
         }
     }
 }

@@ -1,4 +1,5 @@
 pub mod Tests
+pub mod Zero
 pub mod Inside
 pub mod Lists
 pub mod KindBound

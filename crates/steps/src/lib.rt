@@ -1,10 +1,10 @@
 // What one entry of a timeline is sent, and the times that decide it (timeline.rs; paper 01, part 4 and "A panel").
 use tween::Loop;
 ghost use mathlib.Core.Path.{_≡_};
-ghost use mathlib.Core.Bool.{true, false, not, cond, _&&_, _||_};
+ghost use mathlib.Core.Bool.{true, false, cond, _&&_, _||_};
 ghost use Prim.Native.Nat.{_≤_, min};
 ghost use lib.Dec.{eqb, T};
-ghost use lib.Ieee.{binary32, sub, rem, lt, le, eq};
+ghost use lib.Ieee.{binary32, sub, rem, lt, le};
 ghost use Rattle.float32.specs.Helpers.{zeroF, oneF};
 ghost use Rattle.steps.specs.Times.{endAt, runIn, runOf, timesRun, timesLocal, pingPong, localIn, localTime};
 ghost use Rattle.steps.specs.Rows.{row, stepped, seekRow, untouched, resetStep, kindOf, synced, ticked, resetFirst, ruled};
@@ -284,18 +284,12 @@ fn tick_begun(prev: f32, next: f32, e: Entry, reply: u8) -> Stepped
     tick_row(entered, updates, ends, to - from, done)
 }
 
-// Whether a step forward lies inside the run of an entry that has a length: after its start and before its end.
-fn runs_inside(prev: f32, next: f32, e: Entry) -> bool
-    ensures { λ r. ⌜ r ≡ (lt (e .start) prev && (lt next (endAt e) && (lt prev next && not (eq (e .duration) zeroF)))) ⌝ }
+// Whether a step forward lies inside the run of an entry: after its start and before its end. Then the entry has a length.
+fn runs_inside(prev: f32, next: f32, start: f32, end: f32) -> bool
+    ensures { λ r. ⌜ r ≡ (lt start prev && (lt next end && lt prev next)) ⌝ }
 {
-    let start = e.start;
-    let duration = e.duration;
     if start < prev {
-        if next < start + duration {
-            if prev < next { duration != 0.0 } else { false }
-        } else {
-            false
-        }
+        if next < end { prev < next } else { false }
     } else {
         false
     }
@@ -316,19 +310,12 @@ fn tick_inside(prev: f32, next: f32, e: Entry, reply: u8) -> Stepped
     }
 }
 
-// Whether the entry has ended before the step.
-fn lies_behind(prev: f32, next: f32, e: Entry) -> bool
-    ensures { λ r. ⌜ r ≡ (lt (e .start) prev && (le (endAt e) prev && (lt (endAt e) next && not (eq (e .duration) zeroF)))) ⌝ }
+// Whether the entry has ended before the step. It may have no length.
+fn lies_behind(prev: f32, next: f32, start: f32, end: f32) -> bool
+    ensures { λ r. ⌜ r ≡ (lt start prev && (le end prev && lt end next)) ⌝ }
 {
-    let start = e.start;
-    let duration = e.duration;
-    let end = start + duration;
     if start < prev {
-        if end <= prev {
-            if end < next { duration != 0.0 } else { false }
-        } else {
-            false
-        }
+        if end <= prev { end < next } else { false }
     } else {
         false
     }
@@ -340,13 +327,14 @@ pub fn tick_entry(prev: f32, next: f32, e: Entry, reply: u8) -> Stepped
     ensures { λ r. ⌜ r ≡ ticked prev next e reply ⌝ }
 {
     let start = e.start;
+    let end = start + e.duration;
     if next < start {
         return reset_entry();
     }
-    if runs_inside(prev, next, e) {
+    if runs_inside(prev, next, start, end) {
         return tick_inside(prev, next, e, reply);
     }
-    if lies_behind(prev, next, e) {
+    if lies_behind(prev, next, start, end) {
         return end_entry();
     }
     tick_begun(prev, next, e, reply)

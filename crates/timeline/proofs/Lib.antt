@@ -1,2 +1,2 @@
-pub mod Forwards
+pub mod Doors
 pub mod Growing

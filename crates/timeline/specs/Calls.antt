@@ -40,10 +40,10 @@ silent n t = record { refusal = n; timeline = t; rows = []; running = false; com
 
 -- "1: an entry past the 64th. 2: an entry's own label above 24 bytes (after 1)"
 unfoldable pub addedAt : Timeline → List ℕ → Float → Float → Out
-addedAt t name start duration =
+addedAt t label start duration =
     cond (leb maxEntries (t .track .count)) (silent timelineFull t)
-    (cond (ltb maxLabel (length name)) (silent labelTooLong t)
-    (silent accepted (grown t name start duration)))
+    (cond (ltb maxLabel (length label)) (silent labelTooLong t)
+    (silent accepted (grown t label start duration)))
 
 -- the timeline with another track: labels stay
 abbrev pub withTrack : Timeline → Track → Timeline
@@ -56,9 +56,9 @@ onTrack t o =
 
 -- every call: what it leaves, sends, lists, answers and refuses
 unfoldable pub step : Timeline → Call → Out
-step t (Add name at duration) = addedAt t name (resolveStart t at) duration
-step t (AddBoxed name at duration) = addedAt t name (resolveStart t at) duration
-step t (AddAtLabel name target duration) = addedAt t name (namedStart t target) duration
+step t (Add label at duration) = addedAt t label (resolveStart t at) duration
+step t (AddBoxed label at duration) = addedAt t label (resolveStart t at) duration
+step t (AddAtLabel label target duration) = addedAt t label (namedStart t target) duration
 step t (On call) = onTrack t (trackStep (t .track) call)
 
 -- the timeline that a list of calls leaves, each on what the one before left

@@ -1,3 +1,4 @@
 pub mod Placements
 pub mod Calls
+pub mod Answers
 pub mod Introspections

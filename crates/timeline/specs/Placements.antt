@@ -36,7 +36,7 @@ startFound t Nothing = trackBase (t .track)
 
 -- "`Label`: start of the first entry with that label", by the label's bytes
 unfoldable pub namedStart : Timeline → List ℕ → Float
-namedStart t name = startFound t (firstWith name (liveLabels t))
+namedStart t target = startFound t (firstWith target (liveLabels t))
 
 -- `resolve_start`; the label case carries an entry number, and means that entry's label
 unfoldable pub resolveStart : Timeline → At → Float
@@ -56,5 +56,5 @@ grownTrack k e = record { count = k .count + 1; entries = set (k .entries) (k .c
 
 -- `self.entries.push(..)`
 abbrev pub grown : Timeline → List ℕ → Float → Float → Timeline
-grown t name start duration =
-    record { track = grownTrack (t .track) (newEntry start duration); labels = set (t .labels) (t .track .count) (labelOf name) }
+grown t label start duration =
+    record { track = grownTrack (t .track) (newEntry start duration); labels = set (t .labels) (t .track .count) (labelOf label) }

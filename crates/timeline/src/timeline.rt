@@ -1,19 +1,21 @@
-// Timelines (timeline.rs), in the Rust's order. What plays is crate track's, and a call that moves it is made there: `update` and the
-// preview in update.rt, the others in track.rt. Of the Rust's private functions, crate steps has `local_time_for_elapsed` and what
-// `tick_forward` and `sync_to_elapsed` do to one entry, crate walk `entry_completion_labels_between`, crate clock the state.
+// Timelines (timeline.rs), in the Rust's order. A call that moves what plays is a door to the engine of crate player: the track is laid
+// out in columns, the call is made there, and the track is gathered from them. Of the Rust's private functions, crate steps has
+// `local_time_for_elapsed` and what `tick_forward` and `sync_to_elapsed` do to one entry, crate completions
+// `entry_completion_labels_between`, crate clock the state.
 use crate::introspection::AnimationIntrospection;
 use crate::introspection::AnimationKind;
+use clock::Clock;
 use clock::TimelineState;
 use label::Found;
 use label::Label;
 use label::MAX_LABEL;
+use player::engine;
 use steps::Entry;
 use steps::MAX_ENTRIES;
+use track::track::Playhead;
 use track::track::Secs;
 use track::track::Share;
 use track::track::Track;
-use track::track::TrackMoved;
-use track::track::TrackUpdated;
 use tween::Loop;
 ghost use mathlib.Core.Path.{_≡_};
 ghost use Prim.Native.Nat.{_<_};
@@ -21,11 +23,12 @@ ghost use lib.ListN.{length, getD};
 ghost use Rattle.steps.specs.Times.{maxEntries};
 ghost use Rattle.label.specs.Label.{firstLike};
 ghost use Rattle.clock.specs.Clocks.{isCompleted};
-ghost use Rattle.track.specs.Tracks.{live, trackBase, trackRun, progressOf, blank, Sent};
-ghost use Rattle.steps.specs.Slices.{over};
-ghost use Rattle.track.specs.Calls.{Looping, SetTimeScale, Play, Pause, Resume, Reset, Seek, SeekAbs, Update, Preview, roomOf};
+ghost use Rattle.track.specs.Tracks.{live, trackBase, trackRun, progressOf, blank};
+ghost use Rattle.track.specs.Columns.{trackOf, withClockAt, regained};
+ghost use Rattle.track.specs.Calls.{Looping, SetTimeScale, Play, Pause, Resume, Reset, Seek, SeekAbs, withClock};
 ghost use Rattle.timeline.specs.Placements.{empty, liveLabels, startFound, namedStart, resolveStart, grown};
-ghost use Rattle.timeline.specs.Calls.{Add, AddBoxed, AddAtLabel, On, addedAt, withTrack, step, addedBy, movedBy, updatedBy};
+ghost use Rattle.timeline.specs.Calls.{Add, AddBoxed, AddAtLabel, On, addedAt, withTrack, step, addedBy};
+ghost use Rattle.timeline.specs.Answers.{Moves};
 ghost use Rattle.timeline.specs.Introspections.{introspected};
 
 // Where an entry starts. The label case carries the number of an entry, and means that entry's label.
@@ -95,11 +98,11 @@ impl Timeline {
         self.add(label, at, duration)
     }
 
-    // `add` at a label that is named by its bytes; a name above MAX_LABEL bytes is not found.
-    pub fn add_at_label(self, label: &[u8], name: &[u8], duration: f32) -> Added
-        ensures { λ r. ⌜ r ≡ addedBy (step self (AddAtLabel (now (label .entry)) (now (name .entry)) duration)) ⌝ }
+    // `add` at a label that is named by its bytes; a target above MAX_LABEL bytes is not found.
+    pub fn add_at_label(self, label: &[u8], target: &[u8], duration: f32) -> Added
+        ensures { λ r. ⌜ r ≡ addedBy (step self (AddAtLabel (now (label .entry)) (now (target .entry)) duration)) ⌝ }
     {
-        let start = self.named_start(name);
+        let start = self.named_start(target);
         self.push(label, start, duration)
     }
 
@@ -108,7 +111,14 @@ impl Timeline {
         ensures { λ r. ⌜ r ≡ step self (On (Looping mode)) .timeline ⌝ }
     {
         let before = self.track;
-        let track = before.looping(mode);
+        let clock = before.clock;
+        let entries = before.entries;
+        let track = Track {
+            count: before.count,
+            entries,
+            clock,
+            looping: mode,
+        };
         self.with_track(track)
     }
 
@@ -116,57 +126,115 @@ impl Timeline {
     pub fn set_time_scale(self, scale: f32) -> Timeline
         ensures { λ r. ⌜ r ≡ step self (On (SetTimeScale scale)) .timeline ⌝ }
     {
-        let before = self.track;
-        let track = before.set_time_scale(scale);
-        self.with_track(track)
+        let track = self.track;
+        let c = track.clock;
+        let clock = c.scaled(scale);
+        self.with_clock(clock)
     }
 
     // Begins to play; from Completed, from the beginning.
     pub fn play(self, kinds: &mut [u8], amounts: &mut [f32], places: &mut [f32]) -> Moved
-        ensures { λ r. ⌜ r ≡ movedBy (step self (On (Play (roomOf (now (kinds .entry)) (now (amounts .entry)) (now (places .entry)))))) ⌝ }
-        ensures { λ _. ⌜ Sent (step self (On (Play (roomOf (now (kinds .entry)) (now (amounts .entry)) (now (places .entry))))) .rows) (now (kinds .entry)) (now (kinds .exit)) (now (amounts .entry)) (now (amounts .exit)) (now (places .entry)) (now (places .exit)) ⌝ }
+        ensures { λ r. ⌜ Moves self Play r kinds amounts places ⌝ }
     {
         let track = self.track;
-        let m = track.play(kinds, amounts, places);
-        self.moved(m)
+        let mut starts = [0.0f32; MAX_ENTRIES];
+        let mut durations = [0.0f32; MAX_ENTRIES];
+        let mut marks = [false; MAX_ENTRIES];
+        let head = track.lay_out(&mut starts, &mut durations, &mut marks);
+        let m = engine::play(
+            head,
+            &starts,
+            &durations,
+            &mut marks,
+            kinds,
+            amounts,
+            places,
+        );
+        let clock = m.clock;
+        let timeline = self.left(head, clock, &starts, &durations, &marks);
+        Moved {
+            refusal: m.refusal,
+            timeline,
+        }
     }
 
     // Pauses what is Playing.
     pub fn pause(self) -> Timeline
         ensures { λ r. ⌜ r ≡ step self (On Pause) .timeline ⌝ }
     {
-        let before = self.track;
-        let track = before.pause();
-        self.with_track(track)
+        let track = self.track;
+        let c = track.clock;
+        let clock = c.paused();
+        self.with_clock(clock)
     }
 
     // Plays on what is Paused.
     pub fn resume(self) -> Timeline
         ensures { λ r. ⌜ r ≡ step self (On Resume) .timeline ⌝ }
     {
-        let before = self.track;
-        let track = before.resume();
-        self.with_track(track)
+        let track = self.track;
+        let c = track.clock;
+        let clock = c.resumed();
+        self.with_clock(clock)
     }
 
     // Back to the beginning, with every entry.
     pub fn reset(self, kinds: &mut [u8], amounts: &mut [f32], places: &mut [f32]) -> Moved
-        ensures { λ r. ⌜ r ≡ movedBy (step self (On (Reset (roomOf (now (kinds .entry)) (now (amounts .entry)) (now (places .entry)))))) ⌝ }
-        ensures { λ _. ⌜ Sent (step self (On (Reset (roomOf (now (kinds .entry)) (now (amounts .entry)) (now (places .entry))))) .rows) (now (kinds .entry)) (now (kinds .exit)) (now (amounts .entry)) (now (amounts .exit)) (now (places .entry)) (now (places .exit)) ⌝ }
+        ensures { λ r. ⌜ Moves self Reset r kinds amounts places ⌝ }
     {
         let track = self.track;
-        let m = track.reset(kinds, amounts, places);
-        self.moved(m)
+        let mut starts = [0.0f32; MAX_ENTRIES];
+        let mut durations = [0.0f32; MAX_ENTRIES];
+        let mut marks = [false; MAX_ENTRIES];
+        let head = track.lay_out(&mut starts, &mut durations, &mut marks);
+        let m = engine::reset(
+            head,
+            &starts,
+            &durations,
+            &mut marks,
+            kinds,
+            amounts,
+            places,
+        );
+        let clock = m.clock;
+        let timeline = self.left(head, clock, &starts, &durations, &marks);
+        Moved {
+            refusal: m.refusal,
+            timeline,
+        }
     }
 
     // To a share of the run; of an infinite run, to a share of the base.
-    pub fn seek(self, to: Share, kinds: &mut [u8], amounts: &mut [f32], places: &mut [f32]) -> Moved
-        ensures { λ r. ⌜ r ≡ movedBy (step self (On (Seek (to .0) (roomOf (now (kinds .entry)) (now (amounts .entry)) (now (places .entry)))))) ⌝ }
-        ensures { λ _. ⌜ Sent (step self (On (Seek (to .0) (roomOf (now (kinds .entry)) (now (amounts .entry)) (now (places .entry))))) .rows) (now (kinds .entry)) (now (kinds .exit)) (now (amounts .entry)) (now (amounts .exit)) (now (places .entry)) (now (places .exit)) ⌝ }
+    pub fn seek(
+        self,
+        to: Share,
+        kinds: &mut [u8],
+        amounts: &mut [f32],
+        places: &mut [f32],
+    ) -> Moved
+        ensures { λ r. ⌜ Moves self (Seek (to .0)) r kinds amounts places ⌝ }
     {
         let track = self.track;
-        let m = track.seek(to, kinds, amounts, places);
-        self.moved(m)
+        let mut starts = [0.0f32; MAX_ENTRIES];
+        let mut durations = [0.0f32; MAX_ENTRIES];
+        let mut marks = [false; MAX_ENTRIES];
+        let head = track.lay_out(&mut starts, &mut durations, &mut marks);
+        let m = engine::seek(
+            head,
+            to,
+            &starts,
+            &durations,
+            &mut marks,
+            kinds,
+            amounts,
+            places,
+        );
+        let clock = m.clock;
+        let timeline = self.left(head, clock, &starts, &durations, &marks);
+        Moved {
+            refusal: m.refusal,
+            timeline,
+        }
     }
 
     // To a second of the run.
@@ -177,12 +245,29 @@ impl Timeline {
         amounts: &mut [f32],
         places: &mut [f32],
     ) -> Moved
-        ensures { λ r. ⌜ r ≡ movedBy (step self (On (SeekAbs (to .0) (roomOf (now (kinds .entry)) (now (amounts .entry)) (now (places .entry)))))) ⌝ }
-        ensures { λ _. ⌜ Sent (step self (On (SeekAbs (to .0) (roomOf (now (kinds .entry)) (now (amounts .entry)) (now (places .entry))))) .rows) (now (kinds .entry)) (now (kinds .exit)) (now (amounts .entry)) (now (amounts .exit)) (now (places .entry)) (now (places .exit)) ⌝ }
+        ensures { λ r. ⌜ Moves self (SeekAbs (to .0)) r kinds amounts places ⌝ }
     {
         let track = self.track;
-        let m = track.seek_abs(to, kinds, amounts, places);
-        self.moved(m)
+        let mut starts = [0.0f32; MAX_ENTRIES];
+        let mut durations = [0.0f32; MAX_ENTRIES];
+        let mut marks = [false; MAX_ENTRIES];
+        let head = track.lay_out(&mut starts, &mut durations, &mut marks);
+        let m = engine::seek_abs(
+            head,
+            to,
+            &starts,
+            &durations,
+            &mut marks,
+            kinds,
+            amounts,
+            places,
+        );
+        let clock = m.clock;
+        let timeline = self.left(head, clock, &starts, &durations, &marks);
+        Moved {
+            refusal: m.refusal,
+            timeline,
+        }
     }
 
     // The base: where the last entry ends.
@@ -249,12 +334,12 @@ impl Timeline {
     }
 
     // The start of the first entry with this label, or the base.
-    fn named_start(self, name: &[u8]) -> f32
-        ensures { λ r. ⌜ r ≡ namedStart self (now (name .entry)) ⌝ }
+    fn named_start(self, target: &[u8]) -> f32
+        ensures { λ r. ⌜ r ≡ namedStart self (now (target .entry)) ⌝ }
     {
         let track = self.track;
         let labels = self.labels;
-        let found = label::find(labels, track.count, name);
+        let found = label::find(labels, track.count, target);
         self.start_found(found)
     }
 
@@ -343,16 +428,31 @@ impl Timeline {
         Timeline { track, labels }
     }
 
-    // The answer of a call that moved what plays.
-    fn moved(self, m: TrackMoved) -> Moved
-        ensures { λ r. ⌜ r ≡ record { refusal = m .refusal; timeline = withTrack self (m .track) } ⌝ }
+    // What plays has another clock.
+    fn with_clock(self, clock: Clock) -> Timeline
+        ensures { λ r. ⌜ r ≡ withTrack self (withClock (self .track) clock) ⌝ }
     {
-        let track = m.track;
-        let timeline = self.with_track(track);
-        Moved {
-            refusal: m.refusal,
-            timeline,
-        }
+        let mut track = self.track;
+        track.clock = clock;
+        self.with_track(track)
+    }
+
+    // What plays is gathered from the columns that it was laid out in, after a call there that left this clock.
+    fn left(
+        self,
+        head: Playhead,
+        clock: Clock,
+        starts: &[f32],
+        durations: &[f32],
+        marks: &[bool],
+    ) -> Timeline
+        ensures { λ r. ⌜ r ≡ withTrack self (regained (self .track) (trackOf (withClockAt head clock) (now (starts .entry)) (now (durations .entry)) (now (marks .entry)))) ⌝ }
+    {
+        let before = self.track;
+        let after = head.with_clock(clock);
+        let mut track = before.gather(after, starts, durations, marks);
+        track.count = before.count;
+        self.with_track(track)
     }
 
     // The run: the base times the number of passes, infinite for the endless modes.
@@ -361,49 +461,6 @@ impl Timeline {
     {
         let track = self.track;
         track.playback_duration()
-    }
-
-    // Advances by dt seconds, with each leaf's reply (0 stopped, 1 running). The list takes the numbers of the entries that completed.
-    pub fn update(
-        self,
-        dt: f32,
-        replies: &[u8],
-        list: &mut [u8],
-        kinds: &mut [u8],
-        amounts: &mut [f32],
-        places: &mut [f32],
-    ) -> Updated
-        ensures { λ r. ⌜ r ≡ updatedBy (step self (On (Update dt (now (replies .entry)) (length (now (list .entry))) (roomOf (now (kinds .entry)) (now (amounts .entry)) (now (places .entry)))))) ⌝ }
-        ensures { λ _. ⌜ Sent (step self (On (Update dt (now (replies .entry)) (length (now (list .entry))) (roomOf (now (kinds .entry)) (now (amounts .entry)) (now (places .entry))))) .rows) (now (kinds .entry)) (now (kinds .exit)) (now (amounts .entry)) (now (amounts .exit)) (now (places .entry)) (now (places .exit)) ⌝ }
-        ensures { λ _. ⌜ now (list .exit) ≡ over (step self (On (Update dt (now (replies .entry)) (length (now (list .entry))) (roomOf (now (kinds .entry)) (now (amounts .entry)) (now (places .entry))))) .listed) (now (list .entry)) ⌝ }
-    {
-        let track = self.track;
-        let u = track.update(dt, replies, list, kinds, amounts, places);
-        self.updated(u)
-    }
-
-    // The rows that such an update would write, with room enough; the timeline stays. Answers the refusal.
-    pub fn preview(self, dt: f32, kinds: &mut [u8], amounts: &mut [f32], places: &mut [f32]) -> u8
-        ensures { λ r. ⌜ r ≡ step self (On (Preview dt (roomOf (now (kinds .entry)) (now (amounts .entry)) (now (places .entry))))) .refusal ⌝ }
-        ensures { λ _. ⌜ Sent (step self (On (Preview dt (roomOf (now (kinds .entry)) (now (amounts .entry)) (now (places .entry))))) .rows) (now (kinds .entry)) (now (kinds .exit)) (now (amounts .entry)) (now (amounts .exit)) (now (places .entry)) (now (places .exit)) ⌝ }
-    {
-        let track = self.track;
-        track.preview(dt, kinds, amounts, places)
-    }
-
-    // The answer of an update of what plays.
-    fn updated(self, u: TrackUpdated) -> Updated
-        ensures { λ r. ⌜ r ≡ record { refusal = u .refusal; running = u .running; completed = u .completed; listed = u .listed; timeline = withTrack self (u .track) } ⌝ }
-    {
-        let track = u.track;
-        let timeline = self.with_track(track);
-        Updated {
-            refusal: u.refusal,
-            running: u.running,
-            completed: u.completed,
-            listed: u.listed,
-            timeline,
-        }
     }
 
     // What is reported of it: its duration is the run.

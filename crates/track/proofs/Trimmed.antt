@@ -136,7 +136,7 @@ module _ (k : Track) where
 
 -- ---- as many entries as before
 
-abbrev Sized : Track → Track → Type 0
+abbrev pub Sized : Track → Track → Type 0
 Sized k q = (q .count ≡ k .count) × (length (q .entries) ≡ length (k .entries))
 
 module _ (k : Track) where
@@ -161,7 +161,7 @@ module _ (k : Track) where
       go true = moved-sized (advancedClock (k .clock) (playing k dt rs .reach .elapsed) (playing k dt rs .reach .ended)) (playing k dt rs .steps)
       go false = moved-sized (k .clock) (map (ruled Keep) (live k))
 
-  step-sized : (call : TrackCall) → Sized k (trackStep k call .track)
+  pub step-sized : (call : TrackCall) → Sized k (trackStep k call .track)
   unfolding trackStep soughtTo updatedWith previewed
   step-sized (Looping mode) = (refl, refl)
   step-sized (SetTimeScale scale) = (refl, refl)

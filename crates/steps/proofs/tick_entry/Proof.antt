@@ -23,7 +23,7 @@ tick-inside-requires c κs = search needs
 returns-2 : tie.Need-returns-2
 returns-2 c =
     c .tick-inside .ensures
-    ∙ sym (ticked-inside _ _ _ _ (sym (c .before .before .runs-inside .ensures) ∙ c .before .if2 .taken))
+    ∙ sym (ticked-inside _ _ _ _ (search needs) (sym (c .before .before .runs-inside .ensures) ∙ c .before .if2 .taken))
 
 lies-behind-requires : tie.Need-lies-behind-requires
 lies-behind-requires c κs = search needs

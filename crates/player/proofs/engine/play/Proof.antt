@@ -1,62 +1,75 @@
+-- `play` is the step that `Play` says.
+use mathlib.Core.Path.{refl}
 use borrow.Author.Needs.{needs}
+use Rattle.track.specs.Columns.{trackOf}
+use Rattle.track.specs.Calls.{roomOf}
+use Rattle.track.proofs.Columns.{counted, based}
+use Rattle.track.proofs.Outcomes.{play-sent}
+use Rattle.player.proofs.Moving.{apply-room, refused-moves, accepted-moves}
 use Rattle.player.proofs.engine.play.Statement.{statement}
 use Rattle.player.proofs.engine.play.Tie as tie
-use Rattle.player.proofs.engine.play.Reads as reads
-use Rattle.player.proofs.engine.play.Lts as lts
-use Rattle.clock.proofs.Clock.played.Reads as played-reads
-use Rattle.clock.proofs.play_rule.Reads as play-rule-reads
-use Rattle.completions.proofs.base.Reads as base-reads
-use Rattle.player.proofs.engine.rows_short.Reads as rows-short-reads
-use Rattle.player.proofs.entries.apply.Reads as apply-reads
-use Rattle.track.proofs.track.entries_in.Reads as entries-in-reads
 
--- src/engine.rt:83:9
 entries-in-requires : tie.Need-entries-in-requires
 entries-in-requires c κs = search needs
 
--- src/engine.rt:85:8
 rows-short-requires : tie.Need-rows-short-requires
 rows-short-requires c κs = search needs
 
--- src/engine.rt:86:9
-returns : tie.Need-returns
-returns c = ?
+unmoved-requires : tie.Need-unmoved-requires
+unmoved-requires c κs = search needs
 
--- src/engine.rt:91:9
+returns : tie.Need-returns
+returns c =
+    let g = c .before .before .before .before .before .before .before .before .before .before .before .args in
+    let ss = g .starts .now in
+    let ds = g .durations .now in
+    let ms = g .marks .now in
+    let all = counted (g .head) ss ds ms (c .before .before .before .before .entries-in .ensures) in
+    let t = trackOf (g .head) ss ds ms in
+    refused-moves (g .head) ss ds ms (g .kinds .now) (g .amounts .now) (g .places .now) all (c .before .before .rows-short .ensures) _ _ (play-sent t _ refl refl refl) (c .before .if1 .taken) (c .unmoved .ensures)
+
 base-requires : tie.Need-base-requires
 base-requires c κs = search needs
 
--- src/engine.rt:93:9
 play-rule-requires : tie.Need-play-rule-requires
 play-rule-requires c κs = search needs
 
--- src/engine.rt:94:5
 apply-requires : tie.Need-apply-requires
-apply-requires c κs = ?
+apply-requires c κs =
+    let g = c .before .before .before .before .before .before .before .before .before .before .before .before .before .before .before .before .args in
+    let ss = g .starts .now in
+    let ds = g .durations .now in
+    let ms = g .marks .now in
+    let all = counted (g .head) ss ds ms (c .before .before .before .before .before .before .before .before .before .entries-in .ensures) in
+    apply-room (g .head) ss ds ms (g .kinds .now) (g .amounts .now) (g .places .now) all (c .before .before .before .before .before .before .before .rows-short .ensures) (c .before .before .before .before .before .before .if1 .left)
 
--- src/engine.rt:95:9
 played-requires : tie.Need-played-requires
 played-requires c κs = search needs
 
--- src/engine.rt:72:1
 same-length : tie.Need-same-length
 same-length c = search needs
 
--- src/engine.rt:72:1
 same-length-2 : tie.Need-same-length-2
 same-length-2 c = search needs
 
--- src/engine.rt:72:1
 same-length-3 : tie.Need-same-length-3
 same-length-3 c = search needs
 
--- src/engine.rt:72:1
 same-length-4 : tie.Need-same-length-4
 same-length-4 c = search needs
 
--- src/engine.rt:72:1
 returns-2 : tie.Need-returns-2
-returns-2 c = ?
+unfolding trackOf
+returns-2 c =
+    let g = c .before .before .before .before .before .before .before .before .before .before .before .before .before .before .before .before .before .before .before .before .before .before .before .before .before .before .args in
+    let ss = g .starts .now in
+    let ds = g .durations .now in
+    let ms = g .marks .now in
+    let all = counted (g .head) ss ds ms (c .before .before .before .before .before .before .before .before .before .before .before .before .before .before .before .before .before .before .before .entries-in .ensures) in
+    let t = trackOf (g .head) ss ds ms in
+    let room = roomOf (g .kinds .now) (g .amounts .now) (g .places .now) in
+    let eb = based (g .head) ss ds ms _ all (c .before .before .before .before .before .before .before .before .before .before .before .before .before .before .before .base .ensures) in
+    accepted-moves (g .head) ss ds ms (g .kinds .now) (g .amounts .now) (g .places .now) all (c .before .before .before .before .before .before .before .before .before .before .before .before .before .before .before .before .before .rows-short .ensures) _ _ (play-sent t room eb (c .played .ensures) (c .before .before .before .before .before .before .before .before .before .before .before .before .before .before .play-rule .ensures)) (c .before .before .before .before .before .before .before .before .before .before .before .before .before .before .before .before .if1 .left) _ _ _ _ (c .before .before .before .before .before .before .before .before .before .apply .ensures)
 
 pub play-spec : {M : Type 1} → statement M
 play-spec =
@@ -64,6 +77,7 @@ play-spec =
     (tie.spec
     entries-in-requires
     rows-short-requires
+    unmoved-requires
     returns
     base-requires
     play-rule-requires

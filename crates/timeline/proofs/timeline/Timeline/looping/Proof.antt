@@ -1,17 +1,16 @@
--- `looping` is its step.
-use Rattle.timeline.proofs.Forwards.{forwards-track}
+-- `looping` is the step that `Looping` says.
 use borrow.Author.Needs.{needs}
+use Rattle.track.specs.Calls.{trackStep}
+use Rattle.timeline.specs.Calls.{step}
 use Rattle.timeline.proofs.timeline.Timeline.looping.Statement.{statement}
 use Rattle.timeline.proofs.timeline.Timeline.looping.Tie as tie
-
-looping-requires : tie.Need-looping-requires
-looping-requires c κs = search needs
 
 with-track-requires : tie.Need-with-track-requires
 with-track-requires c κs = search needs
 
 returns : tie.Need-returns
-returns c = forwards-track _ _ _ _ (c .with-track .ensures) (c .before .looping .ensures)
+unfolding step trackStep
+returns c = c .with-track .ensures
 
 pub looping-spec : {M : Type 1} → statement M
-looping-spec = tie.close (tie.spec looping-requires with-track-requires returns)
+looping-spec = tie.close (tie.spec with-track-requires returns)

@@ -6,7 +6,7 @@ use lib.ListN.{length, length-take, List·getD-eq-default}
 use Rattle.steps.specs.declared.Entry.{Entry}
 use Rattle.steps.proofs.Lists.{unmapped, part-at}
 use Rattle.track.specs.Tracks.{live, blank}
-use Rattle.track.proofs.Written.{noEntry}
+use Rattle.track.proofs.Marks.{noEntry}
 use Rattle.timeline.proofs.Growing.{getD-any}
 use borrow.Author.Needs.{needs}
 use Rattle.timeline.proofs.timeline.Timeline.start_at.Statement.{statement}
