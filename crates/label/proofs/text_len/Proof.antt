@@ -20,7 +20,7 @@ returns c =
     let h : length (l .bytes) ≡ maxLabel = search needs in
     let m = c .least .ensures in
     let e : c .least .result ≡ length (text l) = simp length-take (omega arith) in
-    (rw e (take-own (l .len) (l .bytes)), omega arith, e)
+    (rw e (take-own (l .len) (l .bytes)), omega arith, e, omega arith)
 
 pub text-len-spec : {M : Type 1} → statement M
 text-len-spec = tie.close (tie.spec cast-least least-requires returns)
