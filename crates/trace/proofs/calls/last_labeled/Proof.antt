@@ -1,14 +1,14 @@
--- `trace::calls::last_named` is safe and ends. The measure is the entries that are left.
+-- `trace::calls::last_labeled` is safe and ends. The measure is the entries that are left.
 use Prim.Native.Nat.{_≤_, _-_}
 use native.Mathlib.Omega.{arith}
-use Rattle.trace.proofs.calls.last_named.Statement.{statement}
-use Rattle.trace.proofs.calls.last_named.Tie as tie
+use Rattle.trace.proofs.calls.last_labeled.Statement.{statement}
+use Rattle.trace.proofs.calls.last_labeled.Tie as tie
 
 abbrev Inv-loop : tie.InvT-loop
-Inv-loop name n labels last₀ i₀ last i = (i ≤ n) × (n ≤ 64)
+Inv-loop target n labels last₀ i₀ last i = (i ≤ n) × (n ≤ 64)
 
 abbrev μ-loop : tie.MeasureT-loop
-μ-loop name n labels last₀ i₀ last i = n - i
+μ-loop target n labels last₀ i₀ last i = n - i
 
 entry-count-requires : tie.Need-entry-count-requires Inv-loop μ-loop
 entry-count-requires c κs = tt
@@ -40,8 +40,8 @@ loop-again c = omega arith
 returns : tie.Need-returns Inv-loop μ-loop
 returns c = tt
 
-pub last-named-spec : {M : Type 1} → statement M
-last-named-spec =
+pub last-labeled-spec : {M : Type 1} → statement M
+last-labeled-spec =
     tie.close
     (tie.spec
     Inv-loop
