@@ -8,7 +8,7 @@ use native.Mathlib.Omega.{arith}
 use borrow.Author.Tests.{le-leb, lt-leb}
 use lib.ListN.{length, take, drop, length-drop}
 use lib.Seq.{take-all, drop-drop}
-use Rattle.digits.specs.Digits.{over}
+use Rattle.digits.specs.Digits.{putAt}
 use Rattle.call_log.specs.declared.Log.{Log}
 use Rattle.call_log.specs.Lines.{lineSize, Wrote}
 use Rattle.call_log.specs.Logs.{callSize}
@@ -103,7 +103,7 @@ module _ (ended : Bool) (log₀ : Log) (bytes old : List ℕ) where
   -- one line more
   pub one-more : (out new : List ℕ) (log : Log) (used len used′ len′ : ℕ) → SoFar ended log₀ bytes old out log used len
       → isNext ended (drop used bytes) (length old - len) ≡ true
-      → new ≡ over (nextBytes log (drop used bytes)) len out → len′ ≡ len + length (nextBytes log (drop used bytes)) → len′ ≤ length old
+      → new ≡ putAt (nextBytes log (drop used bytes)) len out → len′ ≡ len + length (nextBytes log (drop used bytes)) → len′ ≤ length old
       → used′ ≡ used + length (take callSize (drop used bytes))
       → SoFar ended log₀ bytes old new (nextLog log (drop used bytes)) used′ len′
   one-more out new log used len used′ len′ s e w l h u =

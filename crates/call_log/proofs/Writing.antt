@@ -12,26 +12,26 @@ use lib.Seq.{take-suc, set-split}
 use Rattle.float32.specs.Helpers.{toBits}
 use Rattle.digits.specs.Digits.{decimal, hexText, Put}
 use Rattle.digits.proofs.Length.{length-digits}
-use Rattle.digits.proofs.Over.{over-nil}
+use Rattle.digits.proofs.PutAt.{putAt-nil}
 use Rattle.digits.proofs.Room.{written-whole}
 use Rattle.digits.proofs.Claim.{claim}
-use Rattle.sheet_format.proofs.Stores.{length-over, over-then}
+use Rattle.sheet_format.proofs.Stores.{length-putAt, putAt-then}
 use Rattle.call_log.specs.Lines.{Called, bitsField, withField, withFields, shown, Wrote}
 
 -- the array stays as long as it was
 pub wrote-length : {xs : List ℕ} {at n : ℕ} {old new : List ℕ} → Wrote xs at old new n → n ≤ length old → length new ≡ length old
-wrote-length {xs} {at} {n} {old} {new} w h = ap length (w .bytes) ∙ length-over xs at old (omega (arith, w .ends))
+wrote-length {xs} {at} {n} {old} {new} w h = ap length (w .bytes) ∙ length-putAt xs at old (omega (arith, w .ends))
 
 -- two texts, one after the other
 pub wrote-then : {xs ys : List ℕ} {at m n : ℕ} {old mid new : List ℕ} → Wrote xs at old mid m → Wrote ys m mid new n → n ≤ length old
     → Wrote (xs ++ ys) at old new n
 wrote-then {xs} {ys} {at} {m} {n} {old} {mid} {new} a b h =
     let l = length-append xs ys in
-    record { bytes = over-then xs ys at m old mid new (a .bytes) (b .bytes) (a .ends) (omega arith); ends = omega arith }
+    record { bytes = putAt-then xs ys at m old mid new (a .bytes) (b .bytes) (a .ends) (omega arith); ends = omega arith }
 
 -- nothing
 pub wrote-none : (at : ℕ) (old : List ℕ) → Wrote [] at old old at
-wrote-none at old = record { bytes = sym (over-nil at old); ends = sym (add-zero at) }
+wrote-none at old = record { bytes = sym (putAt-nil at old); ends = sym (add-zero at) }
 
 -- a byte
 pub wrote-byte : (b at : ℕ) (old : List ℕ) → at < length old → Wrote (b ∷ []) at old (set old at b) (at + 1)

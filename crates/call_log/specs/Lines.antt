@@ -3,7 +3,7 @@ use Prim.Native.Nat.{ℕ, _+_}
 use mathlib.Core.Path.{_≡_}
 use mathlib.Core.List.{List, [], _∷_, _++_, foldl, map}
 use lib.ListN.{length}
-use Rattle.digits.specs.Digits.{hexText, decimal, over}
+use Rattle.digits.specs.Digits.{hexText, decimal, putAt}
 use Rattle.clock.specs.declared.TimelineState.{TimelineState}
 use Rattle.clock.specs.declared.TimelineState.the-variants.{Idle, Playing, Paused, Completed}
 
@@ -67,5 +67,5 @@ lineSize = 1060
 
 -- a text was put into the array old at a place, which left new; what comes after it starts at next
 pub record Wrote (text : List ℕ) (at : ℕ) (old new : List ℕ) (next : ℕ) : Type 0 where
-  pub bytes : new ≡ over text at old
+  pub bytes : new ≡ putAt text at old
   pub ends : next ≡ at + length text

@@ -6,7 +6,7 @@ use mathlib.Core.List.{List, [], _∷_, _++_, foldl}
 use lib.Dec.{eqb, ltb, leb}
 use lib.ListN.{length, take, drop}
 use Rattle.refusal.specs.Refusal.{accepted}
-use Rattle.digits.specs.Digits.{over}
+use Rattle.digits.specs.Digits.{putAt}
 use Rattle.track.specs.declared.track.Track.{Track}
 use Rattle.steps.specs.Slices as slices
 use Rattle.track.specs.Tracks.{emptyTrack}
@@ -89,7 +89,7 @@ loggedBy log rest = record { len = length (nextBytes log rest); log = nextLog lo
 
 -- what is left in the lent array: the text at its front
 abbrev pub lined : List ℕ → List ℕ → List ℕ
-lined text old = over text 0 old
+lined text old = putAt text 0 old
 
 -- ---- `batch`
 

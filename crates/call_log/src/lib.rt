@@ -13,7 +13,7 @@ use track::track::Track;
 ghost use mathlib.Core.Path.{_≡_};
 ghost use Prim.Native.Nat.{_+_, _<_, _≤_};
 ghost use lib.ListN.{length, take, drop};
-ghost use Rattle.digits.specs.Digits.{over};
+ghost use Rattle.digits.specs.Digits.{putAt};
 ghost use Rattle.sheet_format.specs.Words.{word};
 ghost use Rattle.call_log.specs.Lines.{Refused, shown, lineSize};
 ghost use Rattle.call_log.specs.Logs.{isCut, callSize, listSize, outcomeAt};
@@ -180,7 +180,7 @@ fn behind(at: usize, bytes: &[u8]) -> usize
 fn next(log: Log, rest: &[u8], out: &mut [u8], at: usize) -> Logged
     requires { ⌜ at + lineSize ≤ length (now out) ⌝ }
     ensures { λ r. ⌜ (r ≡ loggedBy log (now (rest .entry))) × (r .len ≤ lineSize) ⌝ }
-    ensures { λ _. ⌜ now (out .exit) ≡ over (nextBytes log (now (rest .entry))) at (now (out .entry)) ⌝ }
+    ensures { λ _. ⌜ now (out .exit) ≡ putAt (nextBytes log (now (rest .entry))) at (now (out .entry)) ⌝ }
 {
     if !log.logging {
         return Logged { len: 0, log };

@@ -2,6 +2,6 @@
 pub mod Length
 pub mod Places
 pub mod Room
-pub mod Over
+pub mod PutAt
 pub mod Write
 pub mod Claim

@@ -7,7 +7,7 @@ use native.Mathlib.Omega.{arith}
 use borrow.Author.Tests.{le-leb, lt-leb, leb-true, leb-false}
 use lib.Dec.{leb}
 use lib.ListN.{length}
-use Rattle.digits.specs.Digits.{over, fits, written, writtenCount, Put}
+use Rattle.digits.specs.Digits.{putAt, fits, written, writtenCount, Put}
 
 -- the test for room, without a sum that could wrap
 pub leb-sub : (w at len : ℕ) → at ≤ len → leb w (len - at) ≡ leb (at + w) len
@@ -19,7 +19,7 @@ leb-sub w at len h = go (leb w (len - at)) refl
 
 module _ (text : List ℕ) (at : ℕ) (old : List ℕ) where
   -- a text that has room is written whole
-  pub written-whole : at + length text ≤ length old → (written text at old ≡ over text at old) × (writtenCount text at old ≡ length text)
+  pub written-whole : at + length text ≤ length old → (written text at old ≡ putAt text at old) × (writtenCount text at old ≡ length text)
   unfolding written writtenCount
   written-whole h = rw (le-leb (at + length text) (length old) h) (refl, refl)
 
@@ -30,7 +30,7 @@ module _ (text : List ℕ) (at : ℕ) (old : List ℕ) where
 
   -- the contract, met either way, for a text of w bytes
   module _ (out : List ℕ) (w : ℕ) (whole : length text ≡ w) where
-    pub put : fits w at old ≡ true → out ≡ over text at old → Put text at old out w
+    pub put : fits w at old ≡ true → out ≡ putAt text at old → Put text at old out w
     put h e =
         let r = written-whole (rw whole (leb-true (at + w) (length old) h)) in
         record { bytes = e ∙ sym (r .0); counted = sym (r .1 ∙ whole) }

@@ -6,16 +6,16 @@ use native.Mathlib.Nat.{not-suc-le-zero}
 use native.Mathlib.Numerals.{sub-one}
 use native.Mathlib.Omega.{arith}
 use lib.ListN.{length, set, length-set}
-use Rattle.digits.specs.Digits.{codeOf, digits, over}
+use Rattle.digits.specs.Digits.{codeOf, digits, putAt}
 use Rattle.digits.proofs.Length.{length-digits}
-use Rattle.digits.proofs.Over.{over-nil, over-snoc}
+use Rattle.digits.proofs.PutAt.{putAt-nil, putAt-snoc}
 
 -- after the stores so far, out lacks the first i of the w digits of n in base b, which are those of rest
 pub record Left (b n w at : ℕ) (old out : List ℕ) (rest i : ℕ) : Type 0 where
   pub within : i ≤ w
   pub room : at + w ≤ length old
   pub same : length out ≡ length old
-  pub left : over (digits b i rest) at out ≡ over (digits b w n) at old
+  pub left : putAt (digits b i rest) at out ≡ putAt (digits b w n) at old
 
 module _ (b n w at : ℕ) (old : List ℕ) where
   pub all-left : at + w ≤ length old → Left b n w at old old n w
@@ -29,7 +29,7 @@ module _ (b n w at : ℕ) (old : List ℕ) where
         within = omega arith;
         room = l .room;
         same = length-set out (at + j) v ∙ l .same;
-        left = over-snoc (digits b j (rest / b)) at v j out (length-digits b j (rest / b)) (omega arith) ∙ rw e (l .left);
+        left = putAt-snoc (digits b j (rest / b)) at v j out (length-digits b j (rest / b)) (omega arith) ∙ rw e (l .left);
       }
 
   -- a turn
@@ -38,7 +38,7 @@ module _ (b n w at : ℕ) (old : List ℕ) where
   fewer-left out rest zero v l h e = absurd (not-suc-le-zero h)
   fewer-left out rest (suc j) v l h e = rw sub-one (one-less out rest j v l e)
 
-  pub none-left : (out : List ℕ) (rest i : ℕ) → Left b n w at old out rest i → i ≤ 0 → out ≡ over (digits b w n) at old
+  pub none-left : (out : List ℕ) (rest i : ℕ) → Left b n w at old out rest i → i ≤ 0 → out ≡ putAt (digits b w n) at old
   unfolding digits
-  none-left out rest zero l h = sym (over-nil at out) ∙ l .left
+  none-left out rest zero l h = sym (putAt-nil at out) ∙ l .left
   none-left out rest (suc j) l h = absurd (not-suc-le-zero h)

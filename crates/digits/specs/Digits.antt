@@ -57,8 +57,8 @@ fromHex text = fromDigits 16 text
 -- ---- put into a slice
 
 -- old with the text over it from `at` on
-abbrev pub over : List ℕ → ℕ → List ℕ → List ℕ
-over text at old = take at old ++ text ++ drop (at + length text) old
+abbrev pub putAt : List ℕ → ℕ → List ℕ → List ℕ
+putAt text at old = take at old ++ text ++ drop (at + length text) old
 
 -- whether w bytes have room from `at` on
 abbrev pub fits : ℕ → ℕ → List ℕ → Bool
@@ -66,7 +66,7 @@ fits w at old = leb (at + w) (length old)
 
 -- what the slice holds after a text was put there: as it was where the text has no room
 unfoldable pub written : List ℕ → ℕ → List ℕ → List ℕ
-written text at old = cond (fits (length text) at old) (over text at old) old
+written text at old = cond (fits (length text) at old) (putAt text at old) old
 
 -- how many bytes were written: the whole text, or none
 unfoldable pub writtenCount : List ℕ → ℕ → List ℕ → ℕ

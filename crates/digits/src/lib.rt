@@ -1,9 +1,9 @@
-// Numbers as text, in ASCII, put into a lent slice. A text that has no room there is not written, and the count is 0.
+// Numbers as text, in ASCII, put into a lent slice. A text that has no room there is not written, and the count is 0. And bytes as wider numbers.
 ghost use mathlib.Core.Path.{_≡_};
 ghost use Prim.Native.Nat.{_+_, _<_, _≤_};
 ghost use lib.Dec.{leb};
 ghost use lib.ListN.{length};
-ghost use Rattle.digits.specs.Digits.{codeOf, digits, hexText, decimalPlaces, decimal, over, Put};
+ghost use Rattle.digits.specs.Digits.{codeOf, digits, hexText, decimalPlaces, decimal, putAt, Put};
 ghost use Rattle.digits.specs.Claim.{Claim};
 
 // Writes n at `at` in decimal, and answers how many bytes were written.
@@ -11,13 +11,6 @@ pub fn put_decimal(n: usize, out: &mut [u8], at: usize) -> usize
     ensures { λ r. ⌜ Put (decimal n) at (now (out .entry)) (now (out .exit)) r ⌝ }
 {
     put_digits(n, 10, decimal_places(n), out, at)
-}
-
-// The same for a u32.
-pub fn put_decimal_u32(n: u32, out: &mut [u8], at: usize) -> usize
-    ensures { λ r. ⌜ Put (decimal n) at (now (out .entry)) (now (out .exit)) r ⌝ }
-{
-    put_decimal(n as usize, out, at)
 }
 
 // Writes n at `at` in eight lower-case hex digits, and answers how many bytes were written.
@@ -63,14 +56,14 @@ fn put_digits(n: usize, base: usize, width: usize, out: &mut [u8], at: usize) ->
 fn write_digits(n: usize, base: usize, width: usize, out: &mut [u8], at: usize)
     requires { ⌜ (0 < base) × (base ≤ 16) ⌝ }
     requires { ⌜ at + width ≤ length (now out) ⌝ }
-    ensures { λ _. ⌜ now (out .exit) ≡ over (digits base width n) at (now (out .entry)) ⌝ }
+    ensures { λ _. ⌜ now (out .exit) ≡ putAt (digits base width n) at (now (out .entry)) ⌝ }
 {
     let mut rest = n;
     let mut i = width;
     while i > 0 {
         i -= 1;
-        let place = at + i;
-        out[place] = code_of((rest % base) as u8);
+        let offset = at + i;
+        out[offset] = code_of((rest % base) as u8);
         rest /= base;
     }
 }
@@ -91,6 +84,20 @@ fn fits(width: usize, at: usize, len: usize) -> bool
         return false;
     }
     width <= len - at
+}
+
+// The same number, as a u32.
+pub fn wide(byte: u8) -> u32
+    ensures { λ r. ⌜ (r ≡ byte) × (r < 256) ⌝ }
+{
+    byte as u32
+}
+
+// The same number, as a usize.
+pub fn wide_usize(byte: u8) -> usize
+    ensures { λ r. ⌜ (r ≡ byte) × (r < 256) ⌝ }
+{
+    byte as usize
 }
 
 // What is claimed of the texts, as a contract: without it the crate is not proved.

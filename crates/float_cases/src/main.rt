@@ -5,9 +5,10 @@
 // as two hex digits, a space, and the answer as eight hex digits. Bytes at the end that are no whole record are passed over.
 mod question;
 
+use digits::wide;
 use libc::STDIN_FILENO;
 use libc::STDOUT_FILENO;
-ghost use Prim.Native.Nat.{_+_, _≤_, _<_};
+ghost use Prim.Native.Nat.{_+_, _≤_};
 
 const RECORD: usize = 21;
 
@@ -84,10 +85,4 @@ fn word(bytes: &[u8; BLOCK_BYTES], at: usize) -> u32
         + wide(bytes[at + 1]) * 256
         + wide(bytes[at + 2]) * 65_536
         + wide(bytes[at + 3]) * 16_777_216
-}
-
-fn wide(byte: u8) -> u32
-    ensures { λ r. ⌜ r < 256 ⌝ }
-{
-    byte as u32
 }

@@ -9,10 +9,10 @@ use lib.Dec.{eqb, ltb, lit≤}
 use lib.ListN.{length, take, length-append, length-take}
 use lib.Ieee.{Float}
 use Rattle.refusal.specs.Refusal.{accepted, timelineFull}
-use Rattle.digits.specs.Digits.{decimal, over, Put}
+use Rattle.digits.specs.Digits.{decimal, putAt, Put}
 use Rattle.digits.proofs.Claim.{decimal-least, decimal-word}
 use Rattle.digits.proofs.Room.{written-whole}
-use Rattle.digits.proofs.Over.{take-over}
+use Rattle.digits.proofs.PutAt.{take-putAt}
 use Rattle.steps.specs.Times.{maxEntries}
 use Rattle.label.specs.Label.{maxLabel}
 use Rattle.timeline.specs.declared.timeline.At.{At}
@@ -48,8 +48,8 @@ labeled i n old new h l front p =
     let fits : 5 + length (decimal i) ≤ length old = omega arith in
     let whole = written-whole (decimal i) 5 old fits in
     let e : n ≡ length (decimal i) = p .counted ∙ whole .1 in
-    let b : new ≡ over (decimal i) 5 old = p .bytes ∙ whole .0 in
-    let text : take (5 + n) new ≡ itemPrefix ++ decimal i = rw (e, b) (take-over (decimal i) 5 old fits ∙ ap (λ (x : List ℕ). x ++ decimal i) front) in
+    let b : new ≡ putAt (decimal i) 5 old = p .bytes ∙ whole .0 in
+    let text : take (5 + n) new ≡ itemPrefix ++ decimal i = rw (e, b) (take-putAt (decimal i) 5 old fits ∙ ap (λ (x : List ℕ). x ++ decimal i) front) in
     let long : length (take (5 + n) new) ≡ 5 + n = ap length text ∙ length-append itemPrefix (decimal i) ∙ ap (λ (x : ℕ). 5 + x) (sym e) in
     record { text = text; within = omega (arith, length-take (5 + n) new); few = omega arith }
 

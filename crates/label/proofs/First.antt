@@ -8,12 +8,12 @@ use native.Mathlib.Numerals.{add-one}
 use native.Mathlib.Omega.{arith}
 use lib.ListN.{length, getD, take, drop, drop-of-length-le}
 use lib.Seq.{drop-cons}
+use Rattle.steps.proofs.Lists.{part-at}
 use Rattle.label.specs.Label.{text, sameText, firstFrom, firstWith, noLabel}
 use Rattle.label.specs.declared.Label.{Label}
 use Rattle.label.specs.declared.Found.{Found}
 use Rattle.label.specs.declared.Found.the-variants.{At, Nothing}
 use Rattle.label.proofs.Text.{text-fits}
-use Rattle.label.proofs.Live.{live-at}
 use Rattle.label.proofs.SameText.{same-true, same-false}
 
 -- label k is the first with the text
@@ -96,12 +96,12 @@ module _ (n k : ℕ) (ls : List Label) (target : List ℕ) where
   -- a turn finds the text
   pub first-hit : (b : Bool) → k < length (take n ls) → b ≡ sameText (text (getD ls k noLabel)) target → b ≡ true → firstFrom k target (drop k (take n ls)) ≡ At k
   unfolding firstFrom
-  first-hit b h e p = rw (drop-cons (take n ls) k noLabel h, live-at n ls k noLabel h, ← e, p)
+  first-hit b h e p = rw (drop-cons (take n ls) k noLabel h, part-at n ls k noLabel h, ← e, p)
 
   -- a turn finds another text
   pub first-miss : (b : Bool) → k < length (take n ls) → b ≡ sameText (text (getD ls k noLabel)) target → b ≡ false → firstFrom k target (drop k (take n ls)) ≡ firstFrom (k + 1) target (drop (k + 1) (take n ls))
   unfolding firstFrom
-  first-miss b h e p = rw (drop-cons (take n ls) k noLabel h, live-at n ls k noLabel h, ← e, p, add-one)
+  first-miss b h e p = rw (drop-cons (take n ls) k noLabel h, part-at n ls k noLabel h, ← e, p, add-one)
 
   -- no label is left
   pub first-end : length (take n ls) ≤ k → firstFrom k target (drop k (take n ls)) ≡ Nothing

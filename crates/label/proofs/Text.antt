@@ -1,7 +1,7 @@
 -- The text of a label that is made from bytes.
-use Prim.Native.Nat.{ℕ, zero, suc, _+_, _-_, _<_, _≤_}
-use mathlib.Core.Path.{_≡_, refl, ap, _∙_}
-use mathlib.Core.List.{List, [], _∷_, _++_, append-assoc}
+use Prim.Native.Nat.{ℕ, suc, _+_, _-_, _<_, _≤_}
+use mathlib.Core.Path.{_≡_, _∙_}
+use mathlib.Core.List.{List, _++_, append-assoc}
 use native.Mathlib.Numerals.{add-one}
 use native.Mathlib.Omega.{arith}
 use lib.ListN.{length, take, getD, set, replicate, length-take}
@@ -16,12 +16,6 @@ text-of label = take-append-seam (take maxLabel label) _
 -- up to 24 bytes are kept whole
 pub text-whole : (label : List ℕ) → length label ≤ maxLabel → text (labelOf label) ≡ label
 text-whole label h = text-of label ∙ take-all maxLabel label h
-
--- a front, taken by its own length
-pub take-taken : {A : Type 0} (n : ℕ) (xs : List A) → take (length (take n xs)) xs ≡ take n xs
-take-taken zero xs = refl
-take-taken (suc n) [] = refl
-take-taken (suc n) (x ∷ xs) = ap (λ (t : List _). x ∷ t) (take-taken n xs)
 
 -- a text is no longer than its label's storage
 pub text-fits : (l : Label) → length (text l) ≤ length (l .bytes)

@@ -3,7 +3,7 @@ use steps::MAX_ENTRIES;
 ghost use mathlib.Core.Path.{_≡_};
 ghost use Prim.Native.Nat.{_≤_};
 ghost use lib.ListN.{length, take};
-ghost use Rattle.label.specs.Label.{text, labelOf, sameText, firstWith, firstLike};
+ghost use Rattle.label.specs.Label.{maxLabel, text, labelOf, sameText, firstWith, firstLike};
 
 // How many bytes a label has at most.
 pub const MAX_LABEL: usize = 24;
@@ -39,7 +39,7 @@ pub fn label_of(label: &[u8]) -> Label
 
 // How many bytes the text has.
 pub fn text_len(l: Label) -> usize
-    ensures { λ r. ⌜ (take r (l .bytes) ≡ text l) × (r ≤ length (l .bytes)) × (r ≡ length (text l)) ⌝ }
+    ensures { λ r. ⌜ (take r (l .bytes) ≡ text l) × (r ≤ length (l .bytes)) × (r ≡ length (text l)) × (r ≤ maxLabel) ⌝ }
 {
     steps::least(l.len as usize, MAX_LABEL)
 }

@@ -8,7 +8,7 @@ use lib.ListN.{length, take, drop, getD, length-take}
 use lib.Seq.{getD-take}
 use Rattle.float32.specs.Helpers.{fromBits}
 use Rattle.label.specs.Label.{text}
-use Rattle.label.proofs.Text.{take-taken}
+use Rattle.steps.proofs.Lists.{take-own}
 use lib.Ieee.{Float}
 use Rattle.label.specs.declared.Label.{Label}
 use Rattle.timeline.specs.declared.timeline.At.{At}
@@ -35,11 +35,11 @@ by-kind t r items x p q e h = rw e h
 
 -- a label's text, by its length
 pub text-part : (l : Label) (n : ℕ) → n ≡ length (text l) → take n (l .bytes) ≡ text l
-text-part l n e = rw e (take-taken (l .len) (l .bytes))
+text-part l n e = rw e (take-own (l .len) (l .bytes))
 
 -- the first n of an array, n cut to its length
 pub take-cut : (n m : ℕ) (items : List Item) → m ≡ min n (length items) → take m items ≡ take n items
-take-cut n m items e = rw (e, ← length-take n items) (take-taken n items)
+take-cut n m items e = rw (e, ← length-take n items) (take-own n items)
 
 module _ (n k : ℕ) (items : List Item) (x : Item) (h : n ≤ length items) where
   size : length (take n items) ≡ n

@@ -17,7 +17,7 @@ use Rattle.sheet_format.specs.Check.{headerSize, pairSize, recordSize, recordsA
 use Rattle.sheet_format.specs.Descriptions.{blankItem, itemsIn, loopOf, partOf, itemOf, itemsFrom, sheetItems, descriptionIn}
 use Rattle.sheet_format.specs.Write.{headerBytes, textLength, pairOf, pairsOf, recordOf, recordsOf, textsOf, sheetOf, labelsGood, targetGood, targetsGood, describeNumber}
 use Rattle.sheet_format.proofs.Bytes.{Bytes, bytes-word}
-use Rattle.sheet_format.proofs.Accepted.{passed, in-turn, Accepted, pair-good}
+use Rattle.sheet_format.proofs.Accepted.{passed-good, in-turn, Accepted, pair-good}
 use Rattle.steps.proofs.Tests.{and-true}
 use Rattle.sheet_format.proofs.Five.{loop-back, placement-back}
 
@@ -63,13 +63,13 @@ module _ (s : List ℕ) where
   -- labels end in the sheet
   ends : (place k : ℕ) (pairs : List ℕ) → pairsNumber (length s) place k pairs ≡ 0 → place ≤ length s
   unfolding pairsNumber
-  ends place zero pairs e = omega (arith, eqb-true place (length s) (passed _ 6 _ e .0))
-  ends place (suc k) pairs e = omega (arith, ends (place + lengthIn pairs) k (drop pairSize pairs) (passed (pairGood place pairs) 10 _ e .1))
+  ends place zero pairs e = omega (arith, eqb-true place (length s) (passed-good _ 6 _ e .0))
+  ends place (suc k) pairs e = omega (arith, ends (place + lengthIn pairs) k (drop pairSize pairs) (passed-good (pairGood place pairs) 10 _ e .1))
 
   placed : (place k : ℕ) (pairs records : List ℕ) → pairsNumber (length s) place (suc k) pairs ≡ 0 → Placed place k pairs records
   unfolding pairsNumber
   placed place k pairs records e =
-      let p = passed (pairGood place pairs) 10 (pairsNumber (length s) (place + lengthIn pairs) k (drop pairSize pairs)) e in
+      let p = passed-good (pairGood place pairs) 10 (pairsNumber (length s) (place + lengthIn pairs) k (drop pairSize pairs)) e in
       let g = pair-good place pairs (p .0) in
       let h = ends (place + lengthIn pairs) k (drop pairSize pairs) (p .1) in
       let l = length-take (lengthIn pairs) (drop place s) in
@@ -97,7 +97,7 @@ module _ (s : List ℕ) where
 
   pub texts-back : (place k : ℕ) (pairs records : List ℕ) → pairsNumber (length s) place k pairs ≡ 0 → textsOf (itemsFrom s k pairs records) ≡ drop place s
   unfolding textsOf itemsFrom pairsNumber
-  texts-back place zero pairs records e = rw (eqb-true place (length s) (passed _ 6 _ e .0)) (sym (drop-length s))
+  texts-back place zero pairs records e = rw (eqb-true place (length s) (passed-good _ 6 _ e .0)) (sym (drop-length s))
   texts-back place (suc k) pairs records e =
       let p = placed place k pairs records e in
       let rest = texts-back (place + lengthIn pairs) k (drop pairSize pairs) (drop recordSize records) (p .next) in
@@ -112,8 +112,8 @@ module _ (s : List ℕ) where
     record-back : (pairs records : List ℕ) → recordSize ≤ length records → Bytes records → recordNumber n records ≡ 0 → RecordBack pairs records
     unfolding recordNumber recordOf
     record-back pairs records h y e =
-        let p = passed (placementGood n (kindIn records) (targetIn records)) 9 _ e in
-        let z = passed (zerosGood (kindIn records) (byteAt records 2) (byteAt records 3) (secondsIn records)) 11 _ (p .1) in
+        let p = passed-good (placementGood n (kindIn records) (targetIn records)) 9 _ e in
+        let z = passed-good (zerosGood (kindIn records) (byteAt records 2) (byteAt records 3) (secondsIn records)) 11 _ (p .1) in
         let a = and-true (eqb (byteAt records 2) 0 && eqb (byteAt records 3) 0) _ (z .0) in
         let b = and-true (eqb (byteAt records 2) 0) (eqb (byteAt records 3) 0) (a .0) in
         let r = placement-back n (kindIn records) (targetIn records) (secondsIn records) (p .0) (a .1) in

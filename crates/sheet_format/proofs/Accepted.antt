@@ -1,22 +1,27 @@
 -- What holds of a sheet that the checks accept.
 use Prim.Native.Nat.{ℕ, suc, _≤_}
 use mathlib.Core.Path.{_≡_, refl}
-use mathlib.Core.Bool.{Bool, true, false, cond, _&&_}
+use mathlib.Core.Bool.{Bool, true, false, cond, not}
 use mathlib.Core.List.{List}
 use native.Mathlib.Omega.{arith}
-use borrow.Author.Tests.{leb-true, eqb-true, eqb-false}
+use borrow.Author.Tests.{leb-true, ltb-false, eqb-true, eqb-false}
 use lib.Dec.{eqb}
 use lib.ListN.{length, drop}
 use Rattle.steps.specs.Times.{maxEntries}
 use Rattle.label.specs.Label.{maxLabel}
 use Rattle.sheet_format.specs.Words.{byteAt, word}
-use Rattle.sheet_format.specs.Check.{headerSize, recordsAt, labelsAt, unless, inTurn, countIn, loopGood, headerNumber, offsetIn, lengthIn, pairGood, pairsNumber, recordsNumber, checkNumber}
+use Rattle.sheet_format.specs.Check.{headerSize, recordsAt, labelsAt, refusedIf, inTurn, countIn, loopGood, headerNumber, offsetIn, lengthIn, pairGood, pairsNumber, recordsNumber, checkNumber}
 use Rattle.steps.proofs.Tests.{and-true}
 
 -- a check that does not refuse was passed, and so were those after it
-pub passed : (good : Bool) (number next : ℕ) → unless good (suc number) next ≡ 0 → (good ≡ true) × (next ≡ 0)
-passed true number next e = (refl, e)
-passed false number next e = absurd (omega arith)
+pub passed : (refused : Bool) (number next : ℕ) → refusedIf refused (suc number) next ≡ 0 → (refused ≡ false) × (next ≡ 0)
+passed true number next e = absurd (omega arith)
+passed false number next e = (refl, e)
+
+-- the same of a check that something is good
+pub passed-good : (good : Bool) (number next : ℕ) → refusedIf (not good) (suc number) next ≡ 0 → (good ≡ true) × (next ≡ 0)
+passed-good true number next e = (refl, e)
+passed-good false number next e = absurd (omega arith)
 
 pub in-turn : (first second : ℕ) → inTurn first second ≡ 0 → (first ≡ 0) × (second ≡ 0)
 in-turn first second e = go (eqb first 0) refl e
@@ -37,18 +42,18 @@ pub header-accepted : (s : List ℕ) → headerNumber s ≡ 0 → Header s
 unfolding headerNumber
 header-accepted s e =
     let a = passed _ 6 _ e in
-    let b = passed _ 5 _ (a .1) in
-    let c = passed _ 11 _ (b .1) in
+    let b = passed-good _ 5 _ (a .1) in
+    let c = passed-good _ 11 _ (b .1) in
     let d = passed _ 7 _ (c .1) in
-    let f = passed _ 8 _ (d .1) in
+    let f = passed-good _ 8 _ (d .1) in
     let g = passed _ 6 _ (f .1) in
     record {
-      long = leb-true _ _ (a .0);
+      long = ltb-false _ _ (a .0);
       version = eqb-true _ _ (b .0);
       zero = eqb-true _ _ (c .0);
-      few = leb-true _ _ (d .0);
+      few = ltb-false _ _ (d .0);
       looping = f .0;
-      room = leb-true _ _ (g .0);
+      room = ltb-false _ _ (g .0);
     }
 
 pub record Accepted (s : List ℕ) : Type 0 where
@@ -63,8 +68,8 @@ accepted-sheet s e =
     let b = in-turn _ _ (a .1) in
     record { header = header-accepted s (a .0); pairs = b .0; records = b .1 }
 
--- a pair in its place, no longer than a label
-pub pair-good : (place : ℕ) (pairs : List ℕ) → pairGood place pairs ≡ true → (offsetIn pairs ≡ place) × (lengthIn pairs ≤ maxLabel)
-pair-good place pairs g =
+-- a label that starts at the offset, and is no longer than a label can be
+pub pair-good : (offset : ℕ) (pairs : List ℕ) → pairGood offset pairs ≡ true → (offsetIn pairs ≡ offset) × (lengthIn pairs ≤ maxLabel)
+pair-good offset pairs g =
     let t = and-true _ _ g in
     (eqb-true _ _ (t .0), leb-true _ _ (t .1))

@@ -8,7 +8,7 @@ use native.Mathlib.Omega.{arith}
 use lib.Dec.{lit<}
 use lib.ListN.{length, take, drop, getD, set}
 use lib.Seq.{drop-cons, sets-eq}
-use Rattle.digits.specs.Digits.{over}
+use Rattle.digits.specs.Digits.{putAt}
 use Rattle.sheet_format.specs.Words.{word, bytesOf}
 
 -- every element is a byte
@@ -67,15 +67,15 @@ bytes-four n =
 -- ---- stores
 
 -- two stores write a word of two bytes
-pub over-two : (n at : ℕ) (old : List ℕ) → n < 65536 → at + 2 ≤ length old → set (set old at (n % 256)) (at + 1) (n / 256) ≡ over (bytesOf 2 n) at old
+pub putAt-two : (n at : ℕ) (old : List ℕ) → n < 65536 → at + 2 ≤ length old → set (set old at (n % 256)) (at + 1) (n / 256) ≡ putAt (bytesOf 2 n) at old
 unfolding bytesOf
-over-two n at old small h =
+putAt-two n at old small h =
     let e : n / 256 % 256 ≡ n / 256 = omega arith in
     rw (add-one, e) (sets-eq (n % 256 ∷ n / 256 ∷ []) old at h)
 
-pub over-four : (a b c d at : ℕ) (old : List ℕ) → at + 4 ≤ length old
-    → set (set (set (set old at a) (at + 1) b) (at + 2) c) (at + 3) d ≡ over (a ∷ b ∷ c ∷ d ∷ []) at old
-over-four a b c d at old h =
+pub putAt-four : (a b c d at : ℕ) (old : List ℕ) → at + 4 ≤ length old
+    → set (set (set (set old at a) (at + 1) b) (at + 2) c) (at + 3) d ≡ putAt (a ∷ b ∷ c ∷ d ∷ []) at old
+putAt-four a b c d at old h =
     let two : at + 2 ≡ suc (suc at) = omega arith in
     let three : at + 3 ≡ suc (suc (suc at)) = omega arith in
     rw (add-one at, two, three) (sets-eq (a ∷ b ∷ c ∷ d ∷ []) old at h)

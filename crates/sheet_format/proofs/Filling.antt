@@ -1,4 +1,4 @@
--- A loop that fills an array of m places from the front.
+-- A loop that fills an array of m slots from the front.
 use Prim.Native.Nat.{ℕ, suc, _+_, _-_, _<_}
 use mathlib.Core.Path.{_≡_, refl, sym, ap, _∙_}
 use mathlib.Core.List.{List, [], _∷_, _++_, append-assoc, append-nil}
@@ -8,7 +8,7 @@ use lib.ListN.{length, take, drop, set, replicate, length-set, length-replicate,
 use lib.Seq.{take-suc-set, drop-set-lt, drop-drop}
 
 module _ {A : Type 0} (all : List A) (z : A) (m : ℕ) where
-  -- i places are filled, with what comes before the rest
+  -- i slots are filled, with what comes before the rest
   pub record Filled (i : ℕ) (items rest : List A) : Type 0 where
     pub whole : take i items ++ rest ≡ all
     pub blank : drop i items ≡ replicate (m - i) z

@@ -8,7 +8,7 @@ use borrow.Author.Tests.{leb-true, leb-false}
 use lib.Dec.{leb}
 use lib.ListN.{length, take, drop, length-take, length-drop, drop-of-length-le}
 use lib.Seq.{take-all}
-use Rattle.label.proofs.Text.{take-taken}
+use Rattle.steps.proofs.Lists.{take-own}
 
 drop-min : (n : ℕ) (s : List ℕ) → drop (min n (length s)) s ≡ drop n s
 drop-min n s = go (leb n (length s)) refl
@@ -25,7 +25,7 @@ drop-min n s = go (leb n (length s)) refl
         drop-of-length-le s a ∙ sym (drop-of-length-le s b)
 
 take-min : (n : ℕ) (s : List ℕ) → take (min n (length s)) s ≡ take n s
-take-min n s = rw (← length-take n s) (take-taken n s)
+take-min n s = rw (← length-take n s) (take-own n s)
 
 -- the part of size bytes from start on, with both cut
 pub part-cut : (start size a b : ℕ) (s : List ℕ) → a ≡ min start (length s) → b ≡ min size (length s - a) → take (a + b - a) (drop a s) ≡ take size (drop start s)

@@ -4,7 +4,7 @@ use mathlib.Core.Path.{_≡_, refl, sym, ap, _∙_}
 use mathlib.Core.Bool.{true}
 use mathlib.Core.List.{List, [], _∷_, _++_, append-assoc, map}
 use native.Mathlib.Omega.{arith}
-use borrow.Author.Tests.{leb-true, le-leb, eq-eqb}
+use borrow.Author.Tests.{leb-true, le-leb, le-ltb, eq-eqb}
 use lib.Dec.{leb}
 use lib.ListN.{length, take, drop, getD, length-append, length-take}
 use lib.Seq.{take-all, take-append-seam, drop-at, drop-drop}
@@ -13,7 +13,6 @@ use Rattle.sheet_format.specs.declared.description.Item.{Item}
 use Rattle.sheet_format.specs.declared.description.Description.{Description}
 use Rattle.sheet_format.specs.Words.{byteAt, word, bytesOf}
 use Rattle.sheet_format.specs.Check.{headerSize, pairSize, recordSize, recordsAt, labelsAt, countIn, headerNumber, offsetIn, lengthIn, pairsNumber, kindIn, targetIn, secondsIn, durationIn, recordNumber, recordsNumber, checkNumber}
-use Rattle.sheet_format.specs.declared.writing.Written.{Written}
 use Rattle.sheet_format.specs.Descriptions.{describedBy, blankItem, itemsIn, loopOf, partOf, itemOf, itemsFrom, sheetItems, descriptionIn, cleanItem, cleaned}
 use Rattle.sheet_format.specs.Write.{modeOf, numberOf, kindOf, targetOf, secondsOf, headerBytes, textLength, pairOf, pairsOf, recordOf, recordsOf, textsOf, sheetOf, labelsGood, targetGood, targetsGood, describeNumber, ReadsBack}
 use Rattle.sheet_format.proofs.Bytes.{length-bytes, word-bytes}
@@ -30,7 +29,7 @@ header-accepts : (s : List ℕ) → Header s → headerNumber s ≡ 0
 unfolding headerNumber
 header-accepts s h =
     rw
-    (le-leb _ _ (h .long), eq-eqb _ _ (h .version), eq-eqb _ _ (h .zero), le-leb _ _ (h .few), h .looping, le-leb _ _ (h .room))
+    (le-ltb _ _ (h .long), eq-eqb _ _ (h .version), eq-eqb _ _ (h .zero), le-ltb _ _ (h .few), h .looping, le-ltb _ _ (h .room))
 
 pub check-accepts : (s : List ℕ) → Accepted s → checkNumber s ≡ 0
 unfolding checkNumber
@@ -38,18 +37,18 @@ check-accepts s a = rw (header-accepts s (a .header), a .pairs, a .records)
 
 -- ---- a pair and a record at the front
 
-record PairFront (place len : ℕ) (pairs rest : List ℕ) : Type 0 where
-  offset : offsetIn pairs ≡ place
+record PairFront (offset len : ℕ) (pairs rest : List ℕ) : Type 0 where
+  starts : offsetIn pairs ≡ offset
   size : lengthIn pairs ≡ len
   next : drop pairSize pairs ≡ rest
 
-pair-front : (place len : ℕ) (rest : List ℕ) → place < 65536 → len < 65536 → PairFront place len (pairOf place len ++ rest) rest
-pair-front place len rest h k =
-    let e = append-assoc (bytesOf 2 place) (bytesOf 2 len) rest in
+pair-front : (offset len : ℕ) (rest : List ℕ) → offset < 65536 → len < 65536 → PairFront offset len (pairOf offset len ++ rest) rest
+pair-front offset len rest h k =
+    let e = append-assoc (bytesOf 2 offset) (bytesOf 2 len) rest in
     record {
-      offset = rw e (word-bytes 2 place (bytesOf 2 len ++ rest) h);
-      size = rw (e, drop-at (bytesOf 2 place) (bytesOf 2 len ++ rest) 2 (length-bytes 2 place)) (word-bytes 2 len rest k);
-      next = drop-at (pairOf place len) rest 4 (length-pair place len);
+      starts = rw e (word-bytes 2 offset (bytesOf 2 len ++ rest) h);
+      size = rw (e, drop-at (bytesOf 2 offset) (bytesOf 2 len ++ rest) 2 (length-bytes 2 offset)) (word-bytes 2 len rest k);
+      next = drop-at (pairOf offset len) rest 4 (length-pair offset len);
     }
 
 record RecordFront (x : Item) (records rest : List ℕ) : Type 0 where
@@ -79,9 +78,9 @@ record-front x rest t =
 
 -- ---- in turn
 
-pairs-step : (len place k size : ℕ) (pairs rest : List ℕ) → PairFront place size pairs rest → size ≤ maxLabel → pairsNumber len place (suc k) pairs ≡ pairsNumber len (place + size) k rest
+pairs-step : (len offset k size : ℕ) (pairs rest : List ℕ) → PairFront offset size pairs rest → size ≤ maxLabel → pairsNumber len offset (suc k) pairs ≡ pairsNumber len (offset + size) k rest
 unfolding pairsNumber
-pairs-step len place k size pairs rest f h = rw (f .offset, f .size, f .next, eq-eqb place place refl, le-leb size maxLabel h)
+pairs-step len offset k size pairs rest f h = rw (f .starts, f .size, f .next, eq-eqb offset offset refl, le-leb size maxLabel h)
 
 records-step : (n k : ℕ) (x : Item) (records rest : List ℕ) → RecordFront x records rest → targetGood n (x .at) ≡ true → recordsNumber n (suc k) records ≡ recordsNumber n k rest
 unfolding recordsNumber recordNumber
@@ -101,22 +100,22 @@ texts-short (x ∷ xs) g =
     let rest = texts-short xs (a .1) in
     omega (arith, length-append (text (x .label)) (textsOf xs))
 
-pairs-last : (len place : ℕ) (pairs : List ℕ) → place ≡ len → pairsNumber len place 0 pairs ≡ 0
+pairs-last : (len offset : ℕ) (pairs : List ℕ) → offset ≡ len → pairsNumber len offset 0 pairs ≡ 0
 unfolding pairsNumber
-pairs-last len place pairs e = rw (eq-eqb place len e)
+pairs-last len offset pairs e = rw (eq-eqb offset len e)
 
-pairs-accepted : (len place : ℕ) (xs : List Item) (rest : List ℕ) → labelsGood xs ≡ true → place + length (textsOf xs) ≡ len → len < 65536
-    → pairsNumber len place (length xs) (pairsOf place xs ++ rest) ≡ 0
+pairs-accepted : (len offset : ℕ) (xs : List Item) (rest : List ℕ) → labelsGood xs ≡ true → offset + length (textsOf xs) ≡ len → len < 65536
+    → pairsNumber len offset (length xs) (pairsOf offset xs ++ rest) ≡ 0
 unfolding pairsOf labelsGood textsOf
-pairs-accepted len place [] rest g e h = pairs-last len place rest (omega arith)
-pairs-accepted len place (x ∷ xs) rest g e h =
+pairs-accepted len offset [] rest g e h = pairs-last len offset rest (omega arith)
+pairs-accepted len offset (x ∷ xs) rest g e h =
     let a = and-true (leb (x .label .len) maxLabel) (labelsGood xs) g in
     let m = short x (a .0) in
     let l = length-append (text (x .label)) (textsOf xs) in
-    let more = pairsOf (place + textLength x) xs in
-    rw (append-assoc (pairOf place (textLength x)) more rest)
-    (pairs-step len place (length xs) (textLength x) _ _ (pair-front place (textLength x) (more ++ rest) (omega arith) (omega arith)) m
-    ∙ pairs-accepted len (place + textLength x) xs rest (a .1) (omega arith) h)
+    let more = pairsOf (offset + textLength x) xs in
+    rw (append-assoc (pairOf offset (textLength x)) more rest)
+    (pairs-step len offset (length xs) (textLength x) _ _ (pair-front offset (textLength x) (more ++ rest) (omega arith) (omega arith)) m
+    ∙ pairs-accepted len (offset + textLength x) xs rest (a .1) (omega arith) h)
 
 -- the entries fit their types
 Each : List Item → Type 0
@@ -144,10 +143,10 @@ records-accepted n (x ∷ xs) rest t g =
 
 -- ---- what is read
 
-item-same : (s : List ℕ) (place : ℕ) (x : Item) (pairs records more ps rs : List ℕ) → PairFront place (textLength x) pairs ps → RecordFront x records rs
-    → drop place s ≡ text (x .label) ++ more → textLength x ≤ maxLabel → itemOf s pairs records ≡ cleanItem x
-item-same s place x pairs records more ps rs f g d h =
-    let p : partOf s pairs ≡ text (x .label) = rw (f .offset, f .size, d) (take-append-seam (text (x .label)) more) in
+item-same : (s : List ℕ) (offset : ℕ) (x : Item) (pairs records more ps rs : List ℕ) → PairFront offset (textLength x) pairs ps → RecordFront x records rs
+    → drop offset s ≡ text (x .label) ++ more → textLength x ≤ maxLabel → itemOf s pairs records ≡ cleanItem x
+item-same s offset x pairs records more ps rs f g d h =
+    let p : partOf s pairs ≡ text (x .label) = rw (f .starts, f .size, d) (take-append-seam (text (x .label)) more) in
     let q : take maxLabel (partOf s pairs) ≡ text (x .label) = rw p (take-all maxLabel (text (x .label)) h) in
     rw (g .duration, g .kind, g .target, g .seconds, placement-same (x .at), q)
 
@@ -160,21 +159,21 @@ items-last : (s pairs records : List ℕ) → itemsFrom s 0 pairs records ≡ []
 unfolding itemsFrom
 items-last s pairs records = refl
 
-items-read : (s : List ℕ) (place : ℕ) (xs : List Item) (a b : List ℕ) → Each xs → labelsGood xs ≡ true → drop place s ≡ textsOf xs → place + length (textsOf xs) < 65536
-    → itemsFrom s (length xs) (pairsOf place xs ++ a) (recordsOf xs ++ b) ≡ map cleanItem xs
+items-read : (s : List ℕ) (offset : ℕ) (xs : List Item) (a b : List ℕ) → Each xs → labelsGood xs ≡ true → drop offset s ≡ textsOf xs → offset + length (textsOf xs) < 65536
+    → itemsFrom s (length xs) (pairsOf offset xs ++ a) (recordsOf xs ++ b) ≡ map cleanItem xs
 unfolding pairsOf recordsOf textsOf labelsGood Each
-items-read s place [] a b t g d h = items-last s a b
-items-read s place (x ∷ xs) a b t g d h =
+items-read s offset [] a b t g d h = items-last s a b
+items-read s offset (x ∷ xs) a b t g d h =
     let u = and-true (leb (x .label .len) maxLabel) (labelsGood xs) g in
     let m = short x (u .0) in
     let l = length-append (text (x .label)) (textsOf xs) in
-    let pairs = pairsOf (place + textLength x) xs in
-    let p = pair-front place (textLength x) (pairs ++ a) (omega arith) (omega arith) in
+    let pairs = pairsOf (offset + textLength x) xs in
+    let p = pair-front offset (textLength x) (pairs ++ a) (omega arith) (omega arith) in
     let r = record-front x (recordsOf xs ++ b) (t 0) in
-    let e : drop (place + textLength x) s ≡ textsOf xs = sym (drop-drop (textLength x) place s) ∙ ap (drop (textLength x)) d ∙ drop-at (text (x .label)) (textsOf xs) (textLength x) refl in
-    rw (append-assoc (pairOf place (textLength x)) pairs a, append-assoc (recordOf x) (recordsOf xs) b)
-    (items-step s (length xs) (cleanItem x) _ _ _ _ (item-same s place x _ _ (textsOf xs) _ _ p r d m) (p .next) (r .next)
-    ∙ ap (λ (ys : List Item). cleanItem x ∷ ys) (items-read s (place + textLength x) xs a b (λ i. t (suc i)) (u .1) e (omega arith)))
+    let e : drop (offset + textLength x) s ≡ textsOf xs = sym (drop-drop (textLength x) offset s) ∙ ap (drop (textLength x)) d ∙ drop-at (text (x .label)) (textsOf xs) (textLength x) refl in
+    rw (append-assoc (pairOf offset (textLength x)) pairs a, append-assoc (recordOf x) (recordsOf xs) b)
+    (items-step s (length xs) (cleanItem x) _ _ _ _ (item-same s offset x _ _ (textsOf xs) _ _ p r d m) (p .next) (r .next)
+    ∙ ap (λ (ys : List Item). cleanItem x ∷ ys) (items-read s (offset + textLength x) xs a b (λ i. t (suc i)) (u .1) e (omega arith)))
 
 described-as : (s : List ℕ) (d : Description) → sheetItems s ≡ map cleanItem (itemsIn d) → loopOf (byteAt s 2) (word 4 (drop 4 s)) ≡ d .looping → word 4 (drop 8 s) ≡ d .«time_scale»
     → countIn s ≡ d .count → descriptionIn s ≡ cleaned d
@@ -188,7 +187,7 @@ module _ (d : Description) (t : Typed d) (z : describeNumber d ≡ 0) where
   good = described d z
 
   live : length (itemsIn d) ≡ d .count
-  live = length-items d (t .places) (good .few)
+  live = length-items d (t .slots) (good .few)
 
   each : Each (itemsIn d)
   unfolding Each

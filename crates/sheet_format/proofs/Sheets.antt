@@ -4,7 +4,7 @@ use Prim.Native.Nat.{ℕ, _+_, _≤_, _<_}
 use mathlib.Core.Path.{_≡_, refl}
 use mathlib.Core.Bool.{true, false}
 use native.Mathlib.Omega.{arith}
-use borrow.Author.Tests.{leb-true, le-leb, lt-leb}
+use borrow.Author.Tests.{ltb-false, le-ltb, lt-ltb}
 use lib.Dec.{eqb}
 use lib.ListN.{length, length-append, length-take}
 use Rattle.refusal.specs.Refusal.{roomTooShort}
@@ -16,7 +16,7 @@ use Rattle.sheet_format.specs.Descriptions.{itemsIn}
 use Rattle.sheet_format.specs.Write.{headerBytes, textsOf, sheetOf, labelsGood, targetsGood, describeNumber, writeNumber, writtenBytes}
 use Rattle.sheet_format.proofs.Bytes.{length-bytes}
 use Rattle.sheet_format.proofs.Turns.{length-pairs, length-records}
-use Rattle.sheet_format.proofs.Accepted.{passed}
+use Rattle.sheet_format.proofs.Accepted.{passed, passed-good}
 
 pub length-header : (n : ℕ) (looping : Loop) (scale : ℕ) → length (headerBytes n looping scale) ≡ headerSize
 unfolding headerBytes
@@ -45,9 +45,9 @@ pub described : (d : Description) → describeNumber d ≡ 0 → Good d
 unfolding describeNumber
 described d e =
     let a = passed _ 7 _ e in
-    let b = passed _ 10 _ (a .1) in
-    let c = passed _ 9 _ (b .1) in
-    record { few = leb-true _ _ (a .0); labels = b .0; targets = c .0 }
+    let b = passed-good _ 10 _ (a .1) in
+    let c = passed-good _ 9 _ (b .1) in
+    record { few = ltb-false _ _ (a .0); labels = b .0; targets = c .0 }
 
 -- what holds of one that can be written into a room
 pub record Fitting (d : Description) (room : ℕ) : Type 0 where
@@ -71,9 +71,9 @@ module _ (d : Description) (room : ℕ) where
   -- the room is too short
   pub write-short : describeNumber d ≡ 0 → room < length (sheetOf d) → (writeNumber d room ≡ roomTooShort) × (writtenBytes d room ≡ [])
   unfolding writeNumber writtenBytes
-  write-short e h = rw (e, lt-leb (length (sheetOf d)) room h) (refl, refl)
+  write-short e h = rw (e, lt-ltb room (length (sheetOf d)) h) (refl, refl)
 
   -- the sheet is written
   pub write-whole : describeNumber d ≡ 0 → length (sheetOf d) ≤ room → (writeNumber d room ≡ 0) × (writtenBytes d room ≡ sheetOf d)
   unfolding writeNumber writtenBytes
-  write-whole e h = rw (e, le-leb (length (sheetOf d)) room h) (refl, refl)
+  write-whole e h = rw (e, le-ltb room (length (sheetOf d)) h) (refl, refl)

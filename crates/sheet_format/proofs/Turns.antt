@@ -1,7 +1,7 @@
 -- The definitions that go over entries in turn, at a turn of a loop over i of n.
 use Prim.Native.Nat.{ℕ, zero, suc, _+_, _-_, _*_, _≤_, _<_}
 use mathlib.Core.Path.{_≡_, refl}
-use mathlib.Core.Bool.{true, false, cond}
+use mathlib.Core.Bool.{true, false, cond, not}
 use mathlib.Core.List.{List, [], _∷_, _++_}
 use native.Mathlib.Nat.{not-suc-le-zero, le-of-suc-le-suc}
 use native.Mathlib.Numerals.{add-one}
@@ -31,17 +31,17 @@ module _ (n i : ℕ) where
 
   -- ---- the pairs
 
-  module _ (len place at : ℕ) (s : List ℕ) where
-    pub pairs-bad : i < n → pairGood place (drop at s) ≡ false → pairsNumber len place (n - i) (drop at s) ≡ sheetPair
+  module _ (len offset at : ℕ) (s : List ℕ) where
+    pub pairs-bad : i < n → pairGood offset (drop at s) ≡ false → pairsNumber len offset (n - i) (drop at s) ≡ sheetPair
     unfolding pairsNumber
     pairs-bad h g = rw (turn h, g)
 
-    pub pairs-more : i < n → pairGood place (drop at s) ≡ true
-        → pairsNumber len place (n - i) (drop at s) ≡ pairsNumber len (place + lengthIn (drop at s)) (n - (i + 1)) (drop (at + pairSize) s)
+    pub pairs-more : i < n → pairGood offset (drop at s) ≡ true
+        → pairsNumber len offset (n - i) (drop at s) ≡ pairsNumber len (offset + lengthIn (drop at s)) (n - (i + 1)) (drop (at + pairSize) s)
     unfolding pairsNumber
     pairs-more h g = rw (turn h, g, drop-drop pairSize at s)
 
-    pub pairs-end : n ≤ i → pairsNumber len place (n - i) (drop at s) ≡ cond (eqb place len) accepted sheetLength
+    pub pairs-end : n ≤ i → pairsNumber len offset (n - i) (drop at s) ≡ cond (not (eqb offset len)) sheetLength accepted
     unfolding pairsNumber
     pairs-end h = rw (done h)
 
@@ -106,10 +106,10 @@ module _ (n i : ℕ) (items : List Item) (d : Item) where
   unfolding targetsGood
   targets-more m h k g = rw (live-cons h k, g)
 
-  pub pairs-live : (place len : ℕ) → len ≡ textLength (getD items i d) → i < n → n ≤ length items
-      → pairsOf place (drop i (take n items)) ≡ pairOf place len ++ pairsOf (place + len) (drop (i + 1) (take n items))
+  pub pairs-live : (offset len : ℕ) → len ≡ textLength (getD items i d) → i < n → n ≤ length items
+      → pairsOf offset (drop i (take n items)) ≡ pairOf offset len ++ pairsOf (offset + len) (drop (i + 1) (take n items))
   unfolding pairsOf
-  pairs-live place len e h k = rw (live-cons h k, e)
+  pairs-live offset len e h k = rw (live-cons h k, e)
 
   pub records-live : i < n → n ≤ length items → recordsOf (drop i (take n items)) ≡ recordOf (getD items i d) ++ recordsOf (drop (i + 1) (take n items))
   unfolding recordsOf
@@ -131,9 +131,9 @@ pub targets-end : (m : ℕ) → targetsGood m [] ≡ true
 unfolding targetsGood
 targets-end m = refl
 
-pub pairs-none : (place : ℕ) → pairsOf place [] ≡ []
+pub pairs-none : (offset : ℕ) → pairsOf offset [] ≡ []
 unfolding pairsOf
-pairs-none place = refl
+pairs-none offset = refl
 
 pub records-none : recordsOf [] ≡ []
 unfolding recordsOf
@@ -149,16 +149,16 @@ pub length-record : (x : Item) → length (recordOf x) ≡ recordSize
 unfolding recordOf
 length-record x = simp (length-append, length-bytes)
 
-pub length-pair : (place len : ℕ) → length (pairOf place len) ≡ pairSize
-length-pair place len = simp (length-append, length-bytes)
+pub length-pair : (offset len : ℕ) → length (pairOf offset len) ≡ pairSize
+length-pair offset len = simp (length-append, length-bytes)
 
-pub length-pairs : (place : ℕ) (xs : List Item) → length (pairsOf place xs) ≡ pairSize * length xs
+pub length-pairs : (offset : ℕ) (xs : List Item) → length (pairsOf offset xs) ≡ pairSize * length xs
 unfolding pairsOf
-length-pairs place [] = refl
-length-pairs place (x ∷ xs) =
-    let rest = length-pairs (place + textLength x) xs in
-    let here = length-pair place (textLength x) in
-    let l = length-append (pairOf place (textLength x)) (pairsOf (place + textLength x) xs) in
+length-pairs offset [] = refl
+length-pairs offset (x ∷ xs) =
+    let rest = length-pairs (offset + textLength x) xs in
+    let here = length-pair offset (textLength x) in
+    let l = length-append (pairOf offset (textLength x)) (pairsOf (offset + textLength x) xs) in
     omega arith
 
 pub length-records : (xs : List Item) → length (recordsOf xs) ≡ recordSize * length xs

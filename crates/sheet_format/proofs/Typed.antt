@@ -11,7 +11,7 @@ use denote.Shadow.{shadow}
 use denote.Struct.Field.{u8-field}
 use Rattle.steps.specs.Times.{maxEntries}
 use Rattle.label.specs.Label.{maxLabel}
-use Rattle.label.proofs.Live.{unmapped}
+use Rattle.steps.proofs.Lists.{unmapped}
 use Rattle.tween.specs.declared.loop_mode.Loop.{Loop}
 use Rattle.tween.specs.declared.loop_mode.Loop.the-variants.{Once, Times, Forever, PingPong, PingPongTimes}
 use Rattle.tween.proofs.loop_mode.Loop as L
@@ -35,7 +35,7 @@ pub record TypedItem (x : Item) : Type 0 where
 pub record Typed (d : Description) : Type 0 where
   pub number : numberOf (d .looping) < 2 ^ 32
   pub scale : d .«time_scale» < 2 ^ 32
-  pub places : length (d .items) ≡ maxEntries
+  pub slots : length (d .items) ≡ maxEntries
   pub each : (i : ℕ) → TypedItem (getD (d .items) i blankItem)
 
 -- of the number that a mode or a placement carries
@@ -72,6 +72,6 @@ typed d vs g =
     record {
       number = loop-typed (d .looping) _ (g .1 .1 .1 .0);
       scale = g .1 .1 .1 .1 .0 .1;
-      places = unmapped (I.the-field .into) (d .items) maxEntries (items .1 .0 .1);
+      slots = unmapped (I.the-field .into) (d .items) maxEntries (items .1 .0 .1);
       each = items-typed (d .items) (items .0) (items .1 .1);
     }

@@ -1,6 +1,6 @@
 -- The number by which a sheet is refused, for every byte string (paper 01, "The sheet" and "Checks"). Definitions only.
 use Prim.Native.Nat.{ℕ, zero, suc, _+_, _*_}
-use mathlib.Core.Bool.{Bool, cond, _&&_, _||_}
+use mathlib.Core.Bool.{Bool, cond, not, _&&_, _||_}
 use mathlib.Core.List.{List}
 use lib.Dec.{eqb, leb, ltb}
 use lib.ListN.{length, drop}
@@ -29,9 +29,9 @@ labelsAt n = headerSize + 16 * n
 
 -- ---- order: "First met refuses"
 
--- a check: the number where it fails, else what comes after it
-abbrev pub unless : Bool → ℕ → ℕ → ℕ
-unless good number next = cond good next number
+-- a check: the number where it refuses, else what comes after it
+abbrev pub refusedIf : Bool → ℕ → ℕ → ℕ
+refusedIf refused number next = cond refused number next
 
 -- two parts in turn
 abbrev pub inTurn : ℕ → ℕ → ℕ
@@ -50,12 +50,12 @@ loopGood mode number = leb mode 4 && (eqb mode 1 || (eqb mode 4 || eqb number 0)
 -- "7 if below 12 bytes; 6; 12 for byte 3; 8; 9; 7 if below 12 + 16n"
 unfoldable pub headerNumber : List ℕ → ℕ
 headerNumber s =
-    unless (leb headerSize (length s)) sheetLength
-    (unless (eqb (byteAt s 0) 1) sheetVersion
-    (unless (eqb (byteAt s 3) 0) sheetZero
-    (unless (leb (countIn s) maxEntries) sheetCount
-    (unless (loopGood (byteAt s 2) (word 4 (drop 4 s))) sheetLoop
-    (unless (leb (labelsAt (countIn s)) (length s)) sheetLength accepted)))))
+    refusedIf (ltb (length s) headerSize) sheetLength
+    (refusedIf (not (eqb (byteAt s 0) 1)) sheetVersion
+    (refusedIf (not (eqb (byteAt s 3) 0)) sheetZero
+    (refusedIf (ltb maxEntries (countIn s)) sheetCount
+    (refusedIf (not (loopGood (byteAt s 2) (word 4 (drop 4 s)))) sheetLoop
+    (refusedIf (ltb (length s) (labelsAt (countIn s))) sheetLength accepted)))))
 
 -- ---- the pairs
 
@@ -68,13 +68,13 @@ lengthIn pairs = word 2 (drop 2 pairs)
 
 -- the pair starts where the one before ends, and is no longer than a label
 abbrev pub pairGood : ℕ → List ℕ → Bool
-pairGood place pairs = eqb (offsetIn pairs) place && leb (lengthIn pairs) maxLabel
+pairGood offset pairs = eqb (offsetIn pairs) offset && leb (lengthIn pairs) maxLabel
 
--- "pairs in turn (11); 7 if the end differs": of k pairs, the first of which starts at place, in a sheet of len bytes
+-- "pairs in turn (11); 7 if the end differs": of k pairs, in a sheet of len bytes, where the first label starts at this offset
 unfoldable pub pairsNumber : ℕ → ℕ → ℕ → List ℕ → ℕ
-pairsNumber len place zero pairs = unless (eqb place len) sheetLength accepted
-pairsNumber len place (suc k) pairs =
-    unless (pairGood place pairs) sheetPair (pairsNumber len (place + lengthIn pairs) k (drop pairSize pairs))
+pairsNumber len offset zero pairs = refusedIf (not (eqb offset len)) sheetLength accepted
+pairsNumber len offset (suc k) pairs =
+    refusedIf (not (pairGood offset pairs)) sheetPair (pairsNumber len (offset + lengthIn pairs) k (drop pairSize pairs))
 
 -- ---- the records
 
@@ -103,8 +103,8 @@ zerosGood kind first second seconds =
 -- "kind and target (10), zero bytes and seconds (12)"
 unfoldable pub recordNumber : ℕ → List ℕ → ℕ
 recordNumber n records =
-    unless (placementGood n (kindIn records) (targetIn records)) sheetPlacement
-    (unless (zerosGood (kindIn records) (byteAt records 2) (byteAt records 3) (secondsIn records)) sheetZero accepted)
+    refusedIf (not (placementGood n (kindIn records) (targetIn records))) sheetPlacement
+    (refusedIf (not (zerosGood (kindIn records) (byteAt records 2) (byteAt records 3) (secondsIn records))) sheetZero accepted)
 
 -- "then records in turn": k of them, in a sheet of n entries
 unfoldable pub recordsNumber : ℕ → ℕ → List ℕ → ℕ

@@ -1,9 +1,9 @@
 -- The description that a sheet's bytes say. Definitions only.
-use Prim.Native.Nat.{ℕ, zero, suc, _+_, _-_}
+use Prim.Native.Nat.{ℕ, zero, suc, _-_}
 use mathlib.Core.Bool.{cond}
 use mathlib.Core.List.{List, [], _∷_, _++_, map}
-use lib.Dec.{eqb, leb}
-use lib.ListN.{length, take, drop, replicate}
+use lib.Dec.{eqb}
+use lib.ListN.{take, drop, replicate}
 use Rattle.steps.specs.Times.{maxEntries}
 use Rattle.tween.specs.declared.loop_mode.Loop.{Loop}
 use Rattle.tween.specs.declared.loop_mode.Loop.the-variants.{Once, Times, Forever, PingPong, PingPongTimes}
@@ -18,7 +18,7 @@ use Rattle.sheet_format.specs.Check.{headerSize, pairSize, recordSize, r
 
 -- ---- descriptions
 
--- what stands in a place that describes no entry
+-- what stands in a slot that describes no entry
 abbrev pub blankItem : Item
 blankItem = record { duration = 0; at = Start; label = withText [] }
 
@@ -52,10 +52,6 @@ placementOf kind target seconds =
 abbrev pub partOf : List ℕ → List ℕ → List ℕ
 partOf s pairs = take (lengthIn pairs) (drop (offsetIn pairs) s)
 
--- the bytes of label k; none where the sheet ends before its pair does
-unfoldable pub labelTextOf : List ℕ → ℕ → List ℕ
-labelTextOf s k = cond (leb (recordsAt (k + 1)) (length s)) (partOf s (drop (recordsAt k) s)) []
-
 -- the entry whose pair and record are at the front
 abbrev pub itemOf : List ℕ → List ℕ → List ℕ → Item
 itemOf s pairs records =
@@ -71,7 +67,7 @@ itemsFrom s (suc k) pairs records =
 abbrev pub sheetItems : List ℕ → List Item
 sheetItems s = itemsFrom s (countIn s) (drop headerSize s) (drop (recordsAt (countIn s)) s)
 
--- the description that an accepted sheet says, raw bits kept; places past the count are blank
+-- the description that an accepted sheet says, raw bits kept; slots past the count are blank
 unfoldable pub descriptionIn : List ℕ → Description
 descriptionIn s =
     record {

@@ -1,7 +1,7 @@
 -- The bytes that a description is written as, and when it is refused. Definitions only.
 use Prim.Native.Nat.{ℕ, _+_}
 use mathlib.Core.Path.{_≡_}
-use mathlib.Core.Bool.{Bool, true, cond, _&&_}
+use mathlib.Core.Bool.{Bool, true, cond, not, _&&_}
 use mathlib.Core.List.{List, [], _∷_, _++_}
 use lib.Dec.{eqb, leb, ltb}
 use lib.ListN.{length, take, drop}
@@ -16,7 +16,7 @@ use Rattle.sheet_format.specs.declared.description.Item.{Item}
 use Rattle.sheet_format.specs.declared.description.Description.{Description}
 use Rattle.sheet_format.specs.declared.writing.Written.{Written}
 use Rattle.sheet_format.specs.Words.{bytesOf}
-use Rattle.sheet_format.specs.Check.{unless, labelsAt}
+use Rattle.sheet_format.specs.Check.{refusedIf, labelsAt}
 use Rattle.sheet_format.specs.Descriptions.{itemsIn, describedBy, cleaned}
 
 -- ---- the bytes
@@ -68,12 +68,12 @@ textLength x = length (text (x .label))
 
 -- "pairs of u16 offset and u16 length"
 abbrev pub pairOf : ℕ → ℕ → List ℕ
-pairOf place len = bytesOf 2 place ++ bytesOf 2 len
+pairOf offset len = bytesOf 2 offset ++ bytesOf 2 len
 
--- the pairs of entries in turn: the first label starts at place, "each next where the one before ends"
+-- the pairs of entries in turn: the first label starts at this offset, "each next where the one before ends"
 unfoldable pub pairsOf : ℕ → List Item → List ℕ
-pairsOf place [] = []
-pairsOf place (x ∷ xs) = pairOf place (textLength x) ++ pairsOf (place + textLength x) xs
+pairsOf offset [] = []
+pairsOf offset (x ∷ xs) = pairOf offset (textLength x) ++ pairsOf (offset + textLength x) xs
 
 -- "records of 12 bytes: kind, target, two zero bytes, seconds bits, duration bits"
 unfoldable pub recordOf : Item → List ℕ
@@ -118,14 +118,14 @@ targetsGood n (x ∷ xs) = targetGood n (x .at) && targetsGood n xs
 -- "It refuses by 8, 11 (label above 24), 10 (target not below the count)": whatever the room
 unfoldable pub describeNumber : Description → ℕ
 describeNumber d =
-    unless (leb (d .count) maxEntries) sheetCount
-    (unless (labelsGood (itemsIn d)) sheetPair
-    (unless (targetsGood (d .count) (itemsIn d)) sheetPlacement accepted))
+    refusedIf (ltb maxEntries (d .count)) sheetCount
+    (refusedIf (not (labelsGood (itemsIn d))) sheetPair
+    (refusedIf (not (targetsGood (d .count) (itemsIn d))) sheetPlacement accepted))
 
 -- "15 in that order": the room for a written sheet is too short
 unfoldable pub writeNumber : Description → ℕ → ℕ
 writeNumber d room =
-    cond (eqb (describeNumber d) accepted) (unless (leb (length (sheetOf d)) room) roomTooShort accepted) (describeNumber d)
+    cond (eqb (describeNumber d) accepted) (refusedIf (ltb room (length (sheetOf d))) roomTooShort accepted) (describeNumber d)
 
 -- what is written: the sheet, or nothing on refusal
 unfoldable pub writtenBytes : Description → ℕ → List ℕ

@@ -20,7 +20,7 @@ ghost use Prim.Native.Nat.{_+_, _-_, _≤_};
 ghost use lib.ListN.{length, drop, replicate};
 ghost use Rattle.steps.specs.Times.{maxEntries};
 ghost use Rattle.sheet_format.specs.Check.{headerSize, pairSize, recordSize, recordsAt, labelsAt, countIn};
-ghost use Rattle.sheet_format.specs.Descriptions.{blankItem, emptyDescription, itemOf, itemsFrom, descriptionIn, describedBy, labelTextOf};
+ghost use Rattle.sheet_format.specs.Descriptions.{blankItem, emptyDescription, itemOf, itemsFrom, descriptionIn, describedBy};
 
 // Where an entry starts. Seconds are the bits of an f32; the label case carries the number of an entry of the sheet.
 pub enum Placement {
@@ -52,7 +52,7 @@ pub struct Described {
     pub description: Description,
 }
 
-// What stands in a place that describes no entry.
+// What stands in a slot that describes no entry.
 fn blank_item() -> Item
     ensures { λ r. ⌜ r ≡ blankItem ⌝ }
 {
@@ -81,7 +81,7 @@ pub fn empty() -> Description
     }
 }
 
-// The entry whose pair and record stand at these places.
+// The entry whose pair and record stand at these offsets.
 fn item_at(sheet: &[u8], pair: usize, at: usize) -> Item
     requires { ⌜ (pair + pairSize ≤ length (now sheet)) × (at + recordSize ≤ length (now sheet)) ⌝ }
     ensures { λ r. ⌜ r ≡ itemOf (now (sheet .entry)) (drop pair (now (sheet .entry))) (drop at (now (sheet .entry))) ⌝ }
@@ -151,17 +151,4 @@ pub fn describe(sheet: &[u8]) -> Described
         refusal,
         description,
     }
-}
-
-// The bytes of label k, as a part of the sheet; none where the sheet ends before its pair does.
-pub fn label_text(sheet: &[u8], k: usize) -> &[u8]
-    ensures { λ r. ⌜ now r ≡ labelTextOf (now (sheet .entry)) k ⌝ }
-{
-    if sheet.len() < HEADER_SIZE {
-        return &sheet[0..0];
-    }
-    if (sheet.len() - HEADER_SIZE) / PAIR_SIZE <= k {
-        return &sheet[0..0];
-    }
-    part_at(sheet, HEADER_SIZE + PAIR_SIZE * k)
 }

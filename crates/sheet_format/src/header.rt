@@ -13,7 +13,7 @@ use tween::Loop;
 ghost use mathlib.Core.Path.{_≡_};
 ghost use Prim.Native.Nat.{_≤_};
 ghost use lib.ListN.{length};
-ghost use Rattle.digits.specs.Digits.{over};
+ghost use Rattle.digits.specs.Digits.{putAt};
 ghost use Rattle.sheet_format.specs.Check.{headerSize, recordsAt, labelsAt, loopGood, headerNumber};
 ghost use Rattle.sheet_format.specs.Descriptions.{loopOf};
 ghost use Rattle.sheet_format.specs.Write.{modeOf, numberOf, headerBytes};
@@ -134,7 +134,7 @@ fn number_of(looping: Loop) -> u32
 // Writes the header.
 pub(crate) fn put_header(room: &mut [u8], n: u8, looping: Loop, scale: u32)
     requires { ⌜ headerSize ≤ length (now room) ⌝ }
-    ensures { λ _. ⌜ now (room .exit) ≡ over (headerBytes n looping scale) 0 (now (room .entry)) ⌝ }
+    ensures { λ _. ⌜ now (room .exit) ≡ putAt (headerBytes n looping scale) 0 (now (room .entry)) ⌝ }
 {
     put_four(room, 0, VERSION, n, mode_of(looping), 0);
     put_u32(room, 4, number_of(looping));

@@ -9,6 +9,4 @@ pub mod writing;
 
 pub use checks::check;
 pub use description::describe;
-pub use description::label_text;
-pub use pairs::text_len;
 pub use writing::write;

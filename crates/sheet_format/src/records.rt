@@ -15,7 +15,7 @@ ghost use mathlib.Core.Bool.{true};
 ghost use Prim.Native.Nat.{_+_, _<_, _≤_};
 ghost use lib.ListN.{length, take, drop};
 ghost use Rattle.steps.specs.Times.{maxEntries};
-ghost use Rattle.digits.specs.Digits.{over};
+ghost use Rattle.digits.specs.Digits.{putAt};
 ghost use Rattle.sheet_format.specs.Check.{recordSize, recordsAt, labelsAt, placementGood, zerosGood, recordNumber, recordsNumber};
 ghost use Rattle.sheet_format.specs.Descriptions.{placementOf};
 ghost use Rattle.sheet_format.specs.Write.{kindOf, targetOf, secondsOf, recordOf, recordsOf, targetsGood};
@@ -146,7 +146,7 @@ fn seconds_of(at: Placement) -> u32
 // Writes an entry's record.
 fn put_record(room: &mut [u8], at: usize, item: Item)
     requires { ⌜ (at + recordSize ≤ length (now room)) × (targetOf (item .at) < 256) ⌝ }
-    ensures { λ _. ⌜ now (room .exit) ≡ over (recordOf item) at (now (room .entry)) ⌝ }
+    ensures { λ _. ⌜ now (room .exit) ≡ putAt (recordOf item) at (now (room .entry)) ⌝ }
 {
     let placement = item.at;
     put_four(
@@ -164,7 +164,7 @@ fn put_record(room: &mut [u8], at: usize, item: Item)
 // Writes the records of the first n entries.
 pub(crate) fn put_records(room: &mut [u8], items: [Item; MAX_ENTRIES], n: usize)
     requires { ⌜ (n ≤ maxEntries) × (labelsAt n ≤ length (now room)) × (targetsGood n (take n items) ≡ true) ⌝ }
-    ensures { λ _. ⌜ now (room .exit) ≡ over (recordsOf (take n items)) (recordsAt n) (now (room .entry)) ⌝ }
+    ensures { λ _. ⌜ now (room .exit) ≡ putAt (recordsOf (take n items)) (recordsAt n) (now (room .entry)) ⌝ }
 {
     let mut at = records_at(n);
     let mut i = 0usize;

@@ -1,12 +1,12 @@
 // Little-endian numbers in a slice of bytes.
 ghost use mathlib.Core.Path.{_≡_};
-ghost use mathlib.Core.List.{[], _∷_, _++_};
-ghost use Prim.Native.Nat.{_+_, _<_, _≤_, _^_};
+ghost use mathlib.Core.List.{[], _∷_};
+ghost use Prim.Native.Nat.{_+_, _≤_};
 ghost use lib.ListN.{length, drop};
-ghost use Rattle.digits.specs.Digits.{over};
+ghost use Rattle.digits.specs.Digits.{putAt};
 ghost use Rattle.sheet_format.specs.Words.{word, bytesOf};
 
-// The u16 at a place.
+// The u16 at `at`.
 pub(crate) fn u16_at(s: &[u8], at: usize) -> u16
     requires { ⌜ at + 2 ≤ length (now s) ⌝ }
     ensures { λ r. ⌜ r ≡ word 2 (drop at (now (s .entry))) ⌝ }
@@ -15,7 +15,7 @@ pub(crate) fn u16_at(s: &[u8], at: usize) -> u16
     (s[at] as u16) + (s[next] as u16) * 256
 }
 
-// The u32 at a place.
+// The u32 at `at`.
 pub(crate) fn u32_at(s: &[u8], at: usize) -> u32
     requires { ⌜ at + 4 ≤ length (now s) ⌝ }
     ensures { λ r. ⌜ r ≡ word 4 (drop at (now (s .entry))) ⌝ }
@@ -23,29 +23,29 @@ pub(crate) fn u32_at(s: &[u8], at: usize) -> u32
     (u16_at(s, at) as u32) + (u16_at(s, at + 2) as u32) * 65_536
 }
 
-// Writes a u16 at a place.
+// Writes a u16 at `at`.
 pub(crate) fn put_u16(room: &mut [u8], at: usize, x: u16)
     requires { ⌜ at + 2 ≤ length (now room) ⌝ }
-    ensures { λ _. ⌜ now (room .exit) ≡ over (bytesOf 2 x) at (now (room .entry)) ⌝ }
+    ensures { λ _. ⌜ now (room .exit) ≡ putAt (bytesOf 2 x) at (now (room .entry)) ⌝ }
 {
     let next = at + 1;
     room[at] = (x % 256) as u8;
     room[next] = (x / 256) as u8;
 }
 
-// Writes a u32 at a place.
+// Writes a u32 at `at`.
 pub(crate) fn put_u32(room: &mut [u8], at: usize, x: u32)
     requires { ⌜ at + 4 ≤ length (now room) ⌝ }
-    ensures { λ _. ⌜ now (room .exit) ≡ over (bytesOf 4 x) at (now (room .entry)) ⌝ }
+    ensures { λ _. ⌜ now (room .exit) ≡ putAt (bytesOf 4 x) at (now (room .entry)) ⌝ }
 {
     put_u16(room, at, (x % 65_536) as u16);
     put_u16(room, at + 2, (x / 65_536) as u16);
 }
 
-// Writes four bytes, the first at a place.
+// Writes four bytes, the first at `at`.
 pub(crate) fn put_four(room: &mut [u8], at: usize, a: u8, b: u8, c: u8, d: u8)
     requires { ⌜ at + 4 ≤ length (now room) ⌝ }
-    ensures { λ _. ⌜ now (room .exit) ≡ over (a ∷ b ∷ c ∷ d ∷ []) at (now (room .entry)) ⌝ }
+    ensures { λ _. ⌜ now (room .exit) ≡ putAt (a ∷ b ∷ c ∷ d ∷ []) at (now (room .entry)) ⌝ }
 {
     let second = at + 1;
     let third = at + 2;

@@ -5,10 +5,10 @@ use crate::description::Placement;
 use crate::header::labels_at;
 use crate::header::put_header;
 use crate::pairs::put_pairs;
-use crate::pairs::text_len;
 use crate::records::put_records;
 use label::Label;
 use label::MAX_LABEL;
+use label::text_len;
 use refusal::ACCEPTED;
 use refusal::ROOM_TOO_SHORT;
 use refusal::SHEET_COUNT;
@@ -21,9 +21,8 @@ ghost use lib.Dec.{leb};
 ghost use lib.ListN.{length, take};
 ghost use Rattle.steps.specs.Times.{maxEntries};
 ghost use Rattle.label.specs.Label.{maxLabel, text};
-ghost use Rattle.digits.specs.Digits.{over};
+ghost use Rattle.digits.specs.Digits.{putAt};
 ghost use Rattle.refusal.specs.Refusal.{accepted};
-ghost use Rattle.sheet_format.specs.Check.{labelsAt};
 ghost use Rattle.sheet_format.specs.Write.{textsOf, sheetOf, labelsGood, targetGood, targetsGood, describeNumber, writtenAnswer, writtenRoom, ReadsBack};
 
 // The answer of write: the number, and how long the sheet is; 0 where nothing was written.
@@ -120,17 +119,17 @@ fn texts_len(items: [Item; MAX_ENTRIES], n: usize) -> usize
     len
 }
 
-// Writes a label's text at a place.
+// Writes a label's text at `at`.
 fn put_text(room: &mut [u8], at: usize, l: Label)
     requires { ⌜ at + length (text l) ≤ length (now room) ⌝ }
-    ensures { λ _. ⌜ now (room .exit) ≡ over (text l) at (now (room .entry)) ⌝ }
+    ensures { λ _. ⌜ now (room .exit) ≡ putAt (text l) at (now (room .entry)) ⌝ }
 {
     let n = text_len(l);
     let bytes = l.bytes;
     let mut i = 0usize;
     while i < n {
-        let place = at + i;
-        room[place] = bytes[i];
+        let offset = at + i;
+        room[offset] = bytes[i];
         i += 1;
     }
 }
@@ -138,7 +137,7 @@ fn put_text(room: &mut [u8], at: usize, l: Label)
 // Writes the labels of the first n entries, one after the other.
 fn put_texts(room: &mut [u8], items: [Item; MAX_ENTRIES], n: usize, start: usize)
     requires { ⌜ (n ≤ maxEntries) × (start + length (textsOf (take n items)) ≤ length (now room)) ⌝ }
-    ensures { λ _. ⌜ now (room .exit) ≡ over (textsOf (take n items)) start (now (room .entry)) ⌝ }
+    ensures { λ _. ⌜ now (room .exit) ≡ putAt (textsOf (take n items)) start (now (room .entry)) ⌝ }
 {
     let mut at = start;
     let mut i = 0usize;
@@ -154,7 +153,7 @@ fn put_texts(room: &mut [u8], items: [Item; MAX_ENTRIES], n: usize, start: usize
 // Writes the sheet of an accepted description.
 fn put_sheet(room: &mut [u8], d: Description)
     requires { ⌜ (describeNumber d ≡ accepted) × (length (sheetOf d) ≤ length (now room)) ⌝ }
-    ensures { λ _. ⌜ now (room .exit) ≡ over (sheetOf d) 0 (now (room .entry)) ⌝ }
+    ensures { λ _. ⌜ now (room .exit) ≡ putAt (sheetOf d) 0 (now (room .entry)) ⌝ }
 {
     let n = d.count;
     let items = d.items;

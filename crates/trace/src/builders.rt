@@ -1,24 +1,22 @@
 // The calls of a group, and the builders.
+use crate::calls;
 use crate::calls::Run;
-use crate::lines;
-use crate::read;
-use crate::read::Cursor;
-use crate::read::Item;
-use crate::read::ROWS;
-use crate::read::least;
-use crate::text::BUFFER;
-use crate::text::Sink;
+use crate::introspect;
+use case_io::text::BUFFER;
+use case_io::text::Sink;
 use group::group::AnimationGroup;
 use group::group::GroupBuilt;
 use group::sequence::Sequence;
 use group::sequence::Sequenced;
 use group::stagger::Built;
+use steps::least;
 use timeline::timeline::Timeline;
+use trace_read::Cursor;
+use trace_read::ITEMS;
+use trace_read::Item;
+use trace_read::ROWS;
 use tween::StaggerPattern;
 ghost use Prim.Native.Nat.{_<_, _≤_};
-
-// More items than a sequence has at most.
-pub const ITEMS: usize = 256;
 
 // A sequence, where its next item is to be read, and the refusal of each item and the cursor after it.
 struct Reached {
@@ -33,7 +31,7 @@ pub(crate) fn introspecting(buffer: &mut [u8; BUFFER], run: Run) -> Run {
     let t = run.timeline;
     let group = AnimationGroup::from_timeline(t);
     let s = run.line(buffer, refusal::ACCEPTED, t);
-    let s = lines::introspect(s, buffer, group.introspect());
+    let s = introspect::line(s, buffer, group.introspect());
     run.after(run.cursor, s, t)
 }
 
@@ -58,7 +56,7 @@ pub(crate) fn building(script: &[u8], buffer: &mut [u8; BUFFER], run: Run) -> Ru
 // The line of a call that hands out this timeline, and its entries.
 fn show(buffer: &mut [u8; BUFFER], run: Run, refusal: u8, timeline: Timeline) -> Sink {
     let s = run.line(buffer, refusal, timeline);
-    lines::entries(s, buffer, timeline)
+    calls::entries(s, buffer, timeline)
 }
 
 fn built(
@@ -109,7 +107,7 @@ fn sequenced(buffer: &mut [u8; BUFFER], run: Run, made: Reached, n: usize) -> Ru
     let s = show(buffer, run, refusal::ACCEPTED, t);
     let refusals = made.refusals;
     let cursors = made.cursors;
-    let s = lines::items(s, buffer, refusals, cursors, n);
+    let s = trace_lines::items(s, buffer, refusals, cursors, n);
     run.after(made.cursor, s, t)
 }
 
@@ -157,7 +155,7 @@ fn next_item(script: &[u8], made: Reached, at: usize) -> Reached
 }
 
 fn add(script: &[u8], sequence: Sequence, item: Item) -> Sequenced {
-    let label = read::bytes(script, item.label);
+    let label = trace_read::bytes(script, item.label);
     let kind = item.kind;
     match kind {
         0 => sequence.then(label, item.secs),

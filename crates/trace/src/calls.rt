@@ -1,24 +1,23 @@
 // One call of a script: its operands are read, it is made, and its lines are printed.
 use crate::builders;
-use crate::lines;
-use crate::read;
-use crate::read::Cursor;
-use crate::read::LIST;
-use crate::read::Placement;
-use crate::read::ROWS;
-use crate::read::Room;
-use crate::read::Span;
-use crate::read::Update;
-use crate::read::least;
-use crate::text::BUFFER;
-use crate::text::Sink;
+use crate::introspect;
+use case_io::text::BUFFER;
+use case_io::text::Sink;
 use clock::Clock;
 use group::group::AnimationGroup;
 use steps::MAX_ENTRIES;
+use steps::least;
 use timeline::timeline::Added;
 use timeline::timeline::At;
 use timeline::timeline::Moved;
 use timeline::timeline::Timeline;
+use trace_read::Cursor;
+use trace_read::LIST;
+use trace_read::Placement;
+use trace_read::ROWS;
+use trace_read::Room;
+use trace_read::Span;
+use trace_read::Update;
 use track::track::Secs;
 use track::track::Share;
 ghost use mathlib.Core.Path.{_≡_};
@@ -88,7 +87,14 @@ impl Run {
     // Prints the line of the call, which left this timeline.
     pub(crate) fn line(self, buffer: &mut [u8; BUFFER], refusal: u8, timeline: Timeline) -> Sink {
         let sink = self.sink;
-        lines::call(sink, buffer, self.number, self.byte, refusal, timeline)
+        trace_lines::call(
+            sink,
+            buffer,
+            self.number,
+            self.byte,
+            refusal,
+            timeline.track,
+        )
     }
 }
 
@@ -149,7 +155,7 @@ fn moved(buffer: &mut [u8; BUFFER], run: Run, to: f32, room: Room) -> Run
         &mut places[..p],
     );
     let s = run.line(buffer, m.refusal, m.timeline);
-    let s = lines::rows(s, buffer, &kinds, &amounts, &places, room);
+    let s = trace_lines::rows(s, buffer, &kinds, &amounts, &places, room);
     run.after(room.next, s, m.timeline)
 }
 
@@ -224,15 +230,15 @@ fn updated(script: &[u8], buffer: &mut [u8; BUFFER], run: Run, u: Update) -> Run
     let mut list = fresh_list();
     let m = t.update(
         u.dt,
-        read::bytes(script, span),
+        trace_read::bytes(script, span),
         &mut list[..l],
         &mut kinds[..k],
         &mut amounts[..a],
         &mut places[..p],
     );
     let s = run.line(buffer, m.refusal, m.timeline);
-    let s = lines::rows(s, buffer, &kinds, &amounts, &places, room);
-    let s = lines::update(s, buffer, m, &list, l);
+    let s = trace_lines::rows(s, buffer, &kinds, &amounts, &places, room);
+    let s = trace_lines::update(s, buffer, m.running, m.completed, m.listed, &list, l);
     run.after(u.next, s, m.timeline)
 }
 
@@ -332,7 +338,7 @@ fn adding(script: &[u8], buffer: &mut [u8; BUFFER], run: Run) -> Run {
             duration.float(),
         );
         let s = run.line(buffer, made.refusal, made.timeline);
-        let s = lines::entries(s, buffer, made.timeline);
+        let s = entries(s, buffer, made.timeline);
         return run.after(duration, s, made.timeline);
     }
     run.cut()
@@ -346,13 +352,13 @@ fn add(
     place: Placement,
     duration: f32,
 ) -> Added {
-    let text = read::bytes(script, label);
+    let text = trace_read::bytes(script, label);
     if place.kind == 3 {
-        let name = read::bytes(script, place.name);
+        let target = trace_read::bytes(script, place.target);
         if byte == 8 {
-            return t.add_at_label(text, name, duration);
+            return t.add_at_label(text, target, duration);
         }
-        return t.add_boxed_with_duration(text, At::Label(last_named(t, name)), duration);
+        return t.add_boxed_with_duration(text, At::Label(last_labeled(t, target)), duration);
     }
     let at = at_of(place.kind, place.secs);
     if byte == 8 {
@@ -372,13 +378,13 @@ fn at_of(kind: u32, secs: f32) -> At {
 }
 
 // The last entry with this label, or the count.
-fn last_named(t: Timeline, name: &[u8]) -> usize {
+fn last_labeled(t: Timeline, target: &[u8]) -> usize {
     let n = least(t.entry_count(), MAX_ENTRIES);
     let labels = t.labels;
     let mut last = n;
     let mut i = 0;
     while i < n {
-        if label::has_text(labels[i], name) {
+        if label::has_text(labels[i], target) {
             last = i;
         }
         i += 1;
@@ -386,11 +392,17 @@ fn last_named(t: Timeline, name: &[u8]) -> usize {
     last
 }
 
+// The entries of a timeline.
+pub(crate) fn entries(sink: Sink, buffer: &mut [u8; BUFFER], t: Timeline) -> Sink {
+    let labels = t.labels;
+    trace_lines::entries(sink, buffer, t.track, labels)
+}
+
 // Call 12: introspect.
 fn introspecting(buffer: &mut [u8; BUFFER], run: Run) -> Run {
     let t = run.timeline;
     let s = run.line(buffer, refusal::ACCEPTED, t);
-    let s = lines::introspect(s, buffer, t.introspect());
+    let s = introspect::line(s, buffer, t.introspect());
     run.after(run.cursor, s, t)
 }
 
@@ -404,7 +416,7 @@ fn delaying(script: &[u8], buffer: &mut [u8; BUFFER], run: Run) -> Run {
     if index.whole {
         let found = pattern.delay(index.value);
         let s = run.line(buffer, found.refusal, run.timeline);
-        let s = lines::delay(s, buffer, found.delay);
+        let s = trace_lines::delay(s, buffer, found.delay);
         return run.after(index, s, run.timeline);
     }
     run.cut()

@@ -1,34 +1,26 @@
 // Runs scripts of calls on timelines and prints what each call leaves, so that it can be compared with what the Rust leaves.
 //
-// Standard input is a byte, 0 for text and 1 for digests, and then scripts: a u32 n, little-endian, and n bytes of calls, each a
-// call byte (calls.rt) and its operands (read.rt). Each script starts from the empty timeline. For each call a line is written,
-// and then lines of what it sent, listed or answered (lines.rt). A call whose operands run past the script or are not allowed, and
-// an unknown one, is not made: the line `cut` is written, and the rest of the script is passed over. In place of a script's text
-// its digest can be written, FNV-1a in eight hex digits.
+// Standard input is as case_io says; its records are scripts of calls, each a call byte (calls.rt) and its operands (trace_read).
+// Each script starts from the empty timeline. For each call a line is written, and then lines of what it sent, listed or answered
+// (trace_lines). A call whose operands run past the script or are not allowed, and an unknown one, is not made: the line `cut` is
+// written, and the rest of the script is passed over.
 mod builders;
 mod calls;
-mod lines;
-mod read;
-mod text;
+mod introspect;
 
 use calls::Run;
-use libc::STDIN_FILENO;
-use read::Cursor;
-use read::least;
-use text::BUFFER;
-use text::Sink;
-ghost use Prim.Native.Nat.{_≤_};
-ghost use lib.ListN.{length};
+use case_io::input;
+use case_io::text::BUFFER;
+use case_io::text::Sink;
+use trace_read::Cursor;
 
 // The longest script.
 const SCRIPT: usize = 65_536;
 
 fn main() {
-    let mut mode = [0u8; 1];
-    let got = io::read_full(STDIN_FILENO, &mut mode);
-    let first = mode[0];
-    if got == 1 && first <= 1 {
-        scripts(first == 0);
+    let form = input::read_form();
+    if form.known {
+        scripts(form.text);
     }
 }
 
@@ -44,42 +36,15 @@ fn scripts(text: bool) {
 
 // Runs the next script, and says whether there may be more.
 fn next_script(script: &mut [u8], buffer: &mut [u8; BUFFER], text: bool, number: usize) -> bool {
-    let mut head = [0u8; 4];
-    let got = io::read_full(STDIN_FILENO, &mut head);
-    if got == 0 {
+    let record = input::read_record(script);
+    if record.ended {
         return false;
     }
-    let s = header(Sink::new(text), buffer, number);
-    let len = Cursor::new().word(&head);
-    let n = len.value as usize;
-    if got < 4 || n > script.len() {
-        let s = s.bytes(buffer, b"cut\n");
-        s.end(&*buffer);
-        return false;
-    }
-    let there = fill(script, n);
-    let s = run(&script[..there], buffer, s, there < n);
+    let s = Sink::begin(text, buffer, b"script", number);
+    let n = record.len;
+    let s = run(&script[..n], buffer, s, !record.whole);
     s.end(&*buffer);
-    there == n
-}
-
-// Reads n bytes, or as many as there are.
-fn fill(script: &mut [u8], n: usize) -> usize
-    requires { ⌜ n ≤ length (now script) ⌝ }
-    ensures { λ r. ⌜ r ≤ length (now (script .exit)) ⌝ }
-{
-    let got = io::read_full(STDIN_FILENO, &mut script[..n]);
-    least(got, script.len())
-}
-
-// `script k`, which is no part of a digest.
-fn header(sink: Sink, buffer: &mut [u8; BUFFER], number: usize) -> Sink {
-    if sink.text {
-        let s = sink.bytes(buffer, b"script");
-        let s = s.number(buffer, b' ', number);
-        return s.byte(buffer, b'\n');
-    }
-    sink
+    record.whole
 }
 
 // The calls of a script, of which the input may have ended too early.

@@ -4,7 +4,7 @@ use mathlib.Core.Path.{_≡_, refl, sym, ap}
 use native.Mathlib.Omega.{arith}
 use borrow.Author.Tests.{eq-eqb, ne-eqb}
 use lib.ListN.{length}
-use Rattle.digits.proofs.Over.{over-nil}
+use Rattle.digits.proofs.PutAt.{putAt-nil}
 use Rattle.call_log.specs.Lines.{shown}
 use Rattle.call_log.specs.Logs.{outcomeAt, callLine}
 use Rattle.call_log.specs.Machine.{counted}
@@ -18,13 +18,13 @@ returns : tie.Need-returns
 returns c =
     let start = c .before .before .before .before in
     let o = next-over (start .args .log) (start .args .rest .now) (rw (c .if1 .taken)) in
-    rw (o .0, o .1) ((refl, omega arith), sym (over-nil (start .args .at) (start .args .out .now)))
+    rw (o .0, o .1) ((refl, omega arith), sym (putAt-nil (start .args .at) (start .args .out .now)))
 
 returns-2 : tie.Need-returns-2
 returns-2 c =
     let start = c .before .before .before .before .before in
     let o = next-over (start .args .log) (start .args .rest .now) (rw (c .before .if1 .left, eq-eqb (length (start .args .rest .now)) 0 (omega arith))) in
-    rw (o .0, o .1) ((refl, omega arith), sym (over-nil (start .args .at) (start .args .out .now)))
+    rw (o .0, o .1) ((refl, omega arith), sym (putAt-nil (start .args .at) (start .args .out .now)))
 
 empty-list-requires : tie.Need-empty-list-requires
 empty-list-requires c κs = search needs

@@ -17,8 +17,8 @@ loop-holds c = all-left _ _ _ _ _ (c .before .pre .1)
 sub-i : tie.Need-sub-i Inv-loop μ-loop
 sub-i c = omega arith
 
-add-place : tie.Need-add-place Inv-loop μ-loop
-add-place c = omega arith
+add-offset : tie.Need-add-offset Inv-loop μ-loop
+add-offset c = omega arith
 
 rem-code-of : tie.Need-rem-code-of Inv-loop μ-loop
 rem-code-of c = omega arith
@@ -56,7 +56,7 @@ write-digits-spec =
     μ-loop
     loop-holds
     sub-i
-    add-place
+    add-offset
     rem-code-of
     cast-code-of
     code-of-requires

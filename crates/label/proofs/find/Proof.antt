@@ -5,8 +5,9 @@ use native.Mathlib.Omega.{arith}
 use borrow.Author.Needs.{needs}
 use lib.ListN.{length, drop, take}
 use Rattle.steps.specs.Times.{maxEntries}
+use Rattle.steps.proofs.Lists.{unmapped}
 use Rattle.label.specs.Label.{firstFrom, firstWith}
-use Rattle.label.proofs.Live.{unmapped, live-length}
+use Rattle.label.proofs.Live.{live-length}
 use Rattle.label.proofs.First.{first-hit, first-miss, first-end}
 use Rattle.label.proofs.find.Statement.{statement}
 use Rattle.label.proofs.find.Tie as tie

@@ -8,9 +8,10 @@ use borrow.Author.Tests.{lt-ltb, le-ltb}
 use lib.ListN.{length, take}
 use lib.Seq.{length-take-le}
 use Rattle.steps.specs.Times.{maxEntries}
+use Rattle.steps.proofs.Lists.{unmapped, part-at}
 use Rattle.steps.proofs.Tests.{yes, no}
 use Rattle.label.specs.Label.{text, firstWith, firstLike, noLabel}
-use Rattle.label.proofs.Live.{unmapped, live-length, live-at}
+use Rattle.label.proofs.Live.{live-length}
 use Rattle.label.proofs.find_like.Statement.{statement}
 use Rattle.label.proofs.find_like.Tie as tie
 
@@ -58,7 +59,7 @@ returns-2 c =
     let n = live (at .before .before .before) in
     let ls = take (g .count) (g .t1) in
     let h : g .k < length ls = omega arith in
-    let t = at .text-len .ensures .0 ∙ sym (ap text (live-at (g .count) (g .t1) (g .k) noLabel h)) in
+    let t = at .text-len .ensures .0 ∙ sym (ap text (part-at (g .count) (g .t1) (g .k) noLabel h)) in
     yes _ _ _ _ (lt-ltb _ _ h) (c .find .ensures ∙ ap (λ (s : List ℕ). firstWith s ls) t)
 
 pub find-like-spec : {M : Type 1} → statement M

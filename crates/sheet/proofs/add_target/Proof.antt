@@ -3,7 +3,7 @@ use mathlib.Core.Path.{_≡_}
 use native.Mathlib.Omega.{arith}
 use lib.ListN.{length}
 use Rattle.steps.specs.Times.{maxEntries}
-use Rattle.label.proofs.Live.{unmapped}
+use Rattle.steps.proofs.Lists.{unmapped}
 use Rattle.sheet.proofs.Adds.{named-none, named-some}
 use borrow.Author.Needs.{needs}
 use Rattle.sheet.proofs.add_target.Statement.{statement}

@@ -5,7 +5,7 @@ use native.Mathlib.Omega.{arith}
 use borrow.Author.Needs.{needs}
 use lib.ListN.{length, take, drop}
 use Rattle.steps.specs.Times.{maxEntries}
-use Rattle.label.proofs.Live.{unmapped}
+use Rattle.steps.proofs.Lists.{unmapped}
 use Rattle.timeline.specs.Calls.{after}
 use Rattle.sheet.specs.Build.{callsFrom, callsOf}
 use Rattle.sheet.proofs.Adds.{take-cut, calls-more, calls-end}

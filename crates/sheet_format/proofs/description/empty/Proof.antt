@@ -1,4 +1,4 @@
--- The empty description, with every place blank.
+-- The empty description, with every slot blank.
 use mathlib.Core.Path.{ap}
 use lib.ListN.{replicate}
 use Rattle.tween.specs.declared.loop_mode.Loop.the-variants.{Once}

@@ -1,4 +1,4 @@
--- A pair and a record, at their places.
+-- A pair and a record, at their offsets.
 use mathlib.Core.Path.{_≡_, ap, _∙_}
 use Prim.Native.Nat.{_+_}
 use native.Mathlib.Nat.{add-zero}

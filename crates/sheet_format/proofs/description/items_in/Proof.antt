@@ -1,4 +1,4 @@
--- The places up to i hold the entries that were read; the others are blank.
+-- The slots up to i hold the entries that were read; the others are blank.
 use Prim.Native.Nat.{_+_, _*_, _-_, _≤_}
 use mathlib.Core.Path.{_≡_, refl, ap, _∙_}
 use native.Mathlib.Omega.{arith}

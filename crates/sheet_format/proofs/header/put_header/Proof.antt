@@ -5,7 +5,7 @@ use lib.ListN.{length}
 use mathlib.Core.Path.{refl}
 use native.Mathlib.Omega.{arith}
 use Rattle.sheet_format.specs.Write.{headerBytes}
-use Rattle.sheet_format.proofs.Stores.{over-twelve}
+use Rattle.sheet_format.proofs.Stores.{putAt-twelve}
 use borrow.Author.Needs.{needs}
 use Rattle.sheet_format.proofs.header.put_header.Statement.{statement}
 use Rattle.sheet_format.proofs.header.put_header.Tie as tie
@@ -35,7 +35,7 @@ returns c =
     let room : 0 + 12 ≤ length old = omega (arith, c .before .before .before .before .before .before .before .before .before .before .before .before .before .before .before .pre) in
     let four : List ℕ = 1 ∷ c .before .before .before .before .before .before .before .before .before .before .before .before .before .before .before .args .n ∷ c .before .before .before .before .before .before .before .before .before .before .before .before .mode-of .result ∷ 0 ∷ [] in
     rw (← c .before .before .before .before .before .before .before .before .before .before .before .before .mode-of .ensures, ← c .before .before .before .before .before .before .before .number-of .ensures)
-    (over-twelve four _ _ 0 4 8 old _ _ _ refl (c .before .before .before .before .before .before .before .before .before .before .before .put-four .ensures) (c .before .before .before .before .before .before .put-u32 .ensures) (c .before .before .put-u322 .ensures) refl refl room)
+    (putAt-twelve four _ _ 0 4 8 old _ _ _ refl (c .before .before .before .before .before .before .before .before .before .before .before .put-four .ensures) (c .before .before .before .before .before .before .put-u32 .ensures) (c .before .before .put-u322 .ensures) refl refl room)
 
 pub put-header-spec : {M : Type 1} → statement M
 put-header-spec =

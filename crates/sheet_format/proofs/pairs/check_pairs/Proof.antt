@@ -1,4 +1,4 @@
--- What the pairs so far leave to check: those from i on, the first of which has to start at place.
+-- What the pairs so far leave to check: those from i on, the first of which has to start at this offset.
 use Rattle.sheet_format.proofs.Accepted.{pair-good}
 use mathlib.Core.Path.{_≡_, refl, sym, _∙_}
 use Prim.Native.Nat.{_+_, _*_, _-_, _≤_}
@@ -11,10 +11,10 @@ use Rattle.sheet_format.proofs.pairs.check_pairs.Statement.{statement}
 use Rattle.sheet_format.proofs.pairs.check_pairs.Tie as tie
 
 abbrev Inv-loop : tie.InvT-loop
-Inv-loop sheet n place₀ at₀ i₀ place at i = (i ≤ n) × (at ≡ headerSize + 4 * i) × (place ≤ labelsAt n + 24 * i) × (pairsNumber (length sheet) (labelsAt n) n (drop headerSize sheet) ≡ pairsNumber (length sheet) place (n - i) (drop at sheet))
+Inv-loop sheet n offset₀ at₀ i₀ offset at i = (i ≤ n) × (at ≡ headerSize + 4 * i) × (offset ≤ labelsAt n + 24 * i) × (pairsNumber (length sheet) (labelsAt n) n (drop headerSize sheet) ≡ pairsNumber (length sheet) offset (n - i) (drop at sheet))
 
 abbrev μ-loop : tie.MeasureT-loop
-μ-loop sheet n place₀ at₀ i₀ place at i = n - i
+μ-loop sheet n offset₀ at₀ i₀ offset at i = n - i
 
 labels-at-requires : tie.Need-labels-at-requires Inv-loop μ-loop
 labels-at-requires c κs = omega arith
@@ -37,8 +37,8 @@ returns c =
 length-at-requires : tie.Need-length-at-requires Inv-loop μ-loop
 length-at-requires c κs = omega arith
 
-add-place : tie.Need-add-place Inv-loop μ-loop
-add-place c =
+add-offset : tie.Need-add-offset Inv-loop μ-loop
+add-offset c =
     let good = sym (c .before .before .pair-good .ensures) ∙ not-false (c .before .before .pair-good .result) (c .before .if1 .left) in
     omega (arith, c .length-at .ensures, pair-good _ _ good .1)
 
@@ -83,7 +83,7 @@ check-pairs-spec =
     pair-good-requires
     returns
     length-at-requires
-    add-place
+    add-offset
     add-at
     add-i
     loop-less

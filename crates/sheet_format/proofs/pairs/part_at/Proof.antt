@@ -10,20 +10,20 @@ use Rattle.sheet_format.proofs.pairs.part_at.Tie as tie
 u16-at-requires : tie.Need-u16-at-requires
 u16-at-requires c κs = search needs
 
-cast-at-most : tie.Need-cast-at-most
-cast-at-most c = search needs
+cast-least : tie.Need-cast-least
+cast-least c = search needs
 
-at-most-requires : tie.Need-at-most-requires
-at-most-requires c κs = search needs
+least-requires : tie.Need-least-requires
+least-requires c κs = search needs
 
 length-at-requires : tie.Need-length-at-requires
 length-at-requires c κs = search needs
 
-sub-at-most : tie.Need-sub-at-most
-sub-at-most c = search needs
+sub-least : tie.Need-sub-least
+sub-least c = search needs
 
-at-most-requires-2 : tie.Need-at-most-requires-2
-at-most-requires-2 c κs = search needs
+least-requires-2 : tie.Need-least-requires-2
+least-requires-2 c κs = search needs
 
 add-end : tie.Need-add-end
 add-end c = search needs
@@ -40,20 +40,20 @@ part-result-end c = search needs
 returns : tie.Need-returns
 returns c =
     let s = c .before .before .before .before .before .before .args .sheet .now in
-    part-cut _ _ (c .before .before .before .at-most .result) (c .before .at-most2 .result) s
-    (c .before .before .before .at-most .ensures ∙ ap (λ (n : ℕ). min n (length s)) (c .before .before .before .before .u16-at .ensures))
-    (c .before .at-most2 .ensures ∙ ap (λ (n : ℕ). min n (length s - c .before .before .before .at-most .result)) (c .before .before .length-at .ensures))
+    part-cut _ _ (c .before .before .before .least .result) (c .before .least2 .result) s
+    (c .before .before .before .least .ensures ∙ ap (λ (n : ℕ). min n (length s)) (c .before .before .before .before .u16-at .ensures))
+    (c .before .least2 .ensures ∙ ap (λ (n : ℕ). min n (length s - c .before .before .before .least .result)) (c .before .before .length-at .ensures))
 
 pub part-at-spec : {M : Type 1} → statement M
 part-at-spec =
     tie.close
     (tie.spec
     u16-at-requires
-    cast-at-most
-    at-most-requires
+    cast-least
+    least-requires
     length-at-requires
-    sub-at-most
-    at-most-requires-2
+    sub-least
+    least-requires-2
     add-end
     sub-result
     part-result-start

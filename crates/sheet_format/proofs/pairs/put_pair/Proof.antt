@@ -1,7 +1,7 @@
 -- Two words, one after the other.
 use Prim.Native.Nat.{_+_}
 use native.Mathlib.Omega.{arith}
-use Rattle.sheet_format.proofs.Stores.{over-words}
+use Rattle.sheet_format.proofs.Stores.{putAt-words}
 use borrow.Author.Needs.{needs}
 use Rattle.sheet_format.proofs.pairs.put_pair.Statement.{statement}
 use Rattle.sheet_format.proofs.pairs.put_pair.Tie as tie
@@ -27,7 +27,7 @@ same-length c = search needs
 returns : tie.Need-returns
 returns c =
     let s = c .before .before .before .before .before .before .before .before .before in
-    over-words 2 2 _ _ (s .args .at) (s .args .at + 2) _ _ _ (c .before .before .before .before .before .before .put-u16 .ensures) (c .before .before .put-u162 .ensures) (omega arith) (omega arith)
+    putAt-words 2 2 _ _ (s .args .at) (s .args .at + 2) _ _ _ (c .before .before .before .before .before .before .put-u16 .ensures) (c .before .before .put-u162 .ensures) (omega arith) (omega arith)
 
 pub put-pair-spec : {M : Type 1} → statement M
 put-pair-spec =

@@ -1,12 +1,12 @@
--- The pairs from i on are still to be written, the first of them for a label that starts at place.
+-- The pairs from i on are still to be written, the first of them for a label that starts at this offset.
 use Prim.Native.Nat.{_+_, _*_, _≤_, _-_}
 use mathlib.Core.Path.{_≡_, refl}
 use native.Mathlib.Omega.{arith}
 use borrow.Author.Needs.{needs}
 use lib.ListN.{length, drop, take, length-take}
 use Rattle.steps.specs.Times.{maxEntries}
-use Rattle.label.proofs.Live.{unmapped}
-use Rattle.digits.specs.Digits.{over}
+use Rattle.steps.proofs.Lists.{unmapped}
+use Rattle.digits.specs.Digits.{putAt}
 use Rattle.sheet_format.specs.Check.{headerSize, labelsAt}
 use Rattle.sheet_format.specs.Write.{pairsOf}
 use Rattle.sheet_format.proofs.Stores.{Left, all-left}
@@ -16,11 +16,11 @@ use Rattle.sheet_format.proofs.pairs.put_pairs.Statement.{statement}
 use Rattle.sheet_format.proofs.pairs.put_pairs.Tie as tie
 
 abbrev Inv-loop : tie.InvT-loop
-Inv-loop room₀ n items place₀ at₀ i₀ room place at i =
-    (i ≤ n) × (n ≤ length items) × (n ≤ maxEntries) × (at ≡ headerSize + 4 * i) × (place ≤ labelsAt n + 24 * i) × Left (over (pairsOf (labelsAt n) (take n items)) headerSize room₀) (pairsOf place (drop i (take n items))) at room₀ room
+Inv-loop room₀ n items offset₀ at₀ i₀ room offset at i =
+    (i ≤ n) × (n ≤ length items) × (n ≤ maxEntries) × (at ≡ headerSize + 4 * i) × (offset ≤ labelsAt n + 24 * i) × Left (putAt (pairsOf (labelsAt n) (take n items)) headerSize room₀) (pairsOf offset (drop i (take n items))) at room₀ room
 
 abbrev μ-loop : tie.MeasureT-loop
-μ-loop room₀ n items place₀ at₀ i₀ room place at i = n - i
+μ-loop room₀ n items offset₀ at₀ i₀ room offset at i = n - i
 
 labels-at-requires : tie.Need-labels-at-requires Inv-loop μ-loop
 labels-at-requires c κs = omega arith
@@ -45,11 +45,11 @@ text-len-requires c κs = search needs
 
 put-pair-requires : tie.Need-put-pair-requires Inv-loop μ-loop
 put-pair-requires c κs =
-    let t = c .before .text-len .ensures .1 in
+    let t = c .before .text-len .ensures .3 in
     (omega arith, omega arith, omega arith)
 
-add-place : tie.Need-add-place Inv-loop μ-loop
-add-place c = omega (arith, c .before .before .before .before .text-len .ensures .1)
+add-offset : tie.Need-add-offset Inv-loop μ-loop
+add-offset c = omega (arith, c .before .before .before .before .text-len .ensures .3)
 
 add-at : tie.Need-add-at Inv-loop μ-loop
 add-at c = omega arith
@@ -63,7 +63,7 @@ loop-less c = omega arith
 loop-again : tie.Need-loop-again Inv-loop μ-loop
 loop-again c =
     let at = c .before .before .before .before .before .before .before .before in
-    (omega arith, at .loop .inv .1, at .loop .inv .2, omega arith, omega (arith, c .before .before .before .before .text-len .ensures .1), pairs-left _ _ _ _ (c .before .before .before .before .before .before .before .before .before .before .before .args .t2) _ _ _ (at .loop .at) (omega arith) (at .loop .inv .1) _ _ (c .before .before .before .before .text-len .ensures .0) (at .loop .inv .5) (c .before .before .put-pair .ensures))
+    (omega arith, at .loop .inv .1, at .loop .inv .2, omega arith, omega (arith, c .before .before .before .before .text-len .ensures .3), pairs-left _ _ _ _ (c .before .before .before .before .before .before .before .before .before .before .before .args .t2) _ _ _ (at .loop .at) (omega arith) (at .loop .inv .1) _ _ (c .before .before .before .before .text-len .ensures .2) (at .loop .inv .5) (c .before .before .put-pair .ensures))
 
 same-length : tie.Need-same-length Inv-loop μ-loop
 same-length c = c .before .loop .inv .5 .same
@@ -83,7 +83,7 @@ put-pairs-spec =
     array-copy-out-item
     text-len-requires
     put-pair-requires
-    add-place
+    add-offset
     add-at
     add-i
     loop-less

@@ -5,7 +5,7 @@ use Prim.Native.Nat.{_+_}
 use mathlib.Core.Path.{refl}
 use native.Mathlib.Omega.{arith}
 use Rattle.sheet_format.specs.Write.{recordOf}
-use Rattle.sheet_format.proofs.Stores.{over-twelve}
+use Rattle.sheet_format.proofs.Stores.{putAt-twelve}
 use borrow.Author.Needs.{needs}
 use Rattle.sheet_format.proofs.records.put_record.Statement.{statement}
 use Rattle.sheet_format.proofs.records.put_record.Tie as tie
@@ -46,7 +46,7 @@ returns c =
     let s = c .before .before .before .before .before .before .before .before .before .before .before .before .before .before .before .before in
     let four : List ℕ = c .before .before .before .before .before .before .before .before .before .before .before .before .before .kind-of .result ∷ c .before .before .before .before .before .before .before .before .before .before .before .before .target-of .result ∷ 0 ∷ 0 ∷ [] in
     rw (← c .before .before .before .before .before .before .before .before .before .before .before .before .before .kind-of .ensures, ← c .before .before .before .before .before .before .before .before .before .before .before .before .target-of .ensures, ← c .before .before .before .before .before .before .before .seconds-of .ensures)
-    (over-twelve four _ _ (s .args .at) (s .args .at + 4) (s .args .at + 8) _ _ _ _ refl (c .before .before .before .before .before .before .before .before .before .before .before .put-four .ensures) (c .before .before .before .before .before .before .put-u32 .ensures) (c .before .before .put-u322 .ensures) refl refl (omega arith))
+    (putAt-twelve four _ _ (s .args .at) (s .args .at + 4) (s .args .at + 8) _ _ _ _ refl (c .before .before .before .before .before .before .before .before .before .before .before .put-four .ensures) (c .before .before .before .before .before .before .put-u32 .ensures) (c .before .before .put-u322 .ensures) refl refl (omega arith))
 
 pub put-record-spec : {M : Type 1} → statement M
 put-record-spec =

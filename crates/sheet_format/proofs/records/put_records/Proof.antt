@@ -5,8 +5,8 @@ use native.Mathlib.Omega.{arith}
 use borrow.Author.Needs.{needs}
 use lib.ListN.{length, drop, take, length-take}
 use Rattle.steps.specs.Times.{maxEntries}
-use Rattle.label.proofs.Live.{unmapped}
-use Rattle.digits.specs.Digits.{over}
+use Rattle.steps.proofs.Lists.{unmapped}
+use Rattle.digits.specs.Digits.{putAt}
 use Rattle.sheet_format.specs.Check.{recordsAt}
 use Rattle.sheet_format.specs.Write.{recordsOf}
 use Rattle.sheet_format.proofs.Stores.{Left, all-left}
@@ -17,7 +17,7 @@ use Rattle.sheet_format.proofs.records.put_records.Tie as tie
 
 abbrev Inv-loop : tie.InvT-loop
 Inv-loop room₀ n items at₀ i₀ room at i =
-    (i ≤ n) × (n ≤ length items) × (n ≤ maxEntries) × (at ≡ recordsAt n + 12 * i) × Left (over (recordsOf (take n items)) (recordsAt n) room₀) (recordsOf (drop i (take n items))) at room₀ room
+    (i ≤ n) × (n ≤ length items) × (n ≤ maxEntries) × (at ≡ recordsAt n + 12 * i) × Left (putAt (recordsOf (take n items)) (recordsAt n) room₀) (recordsOf (drop i (take n items))) at room₀ room
 
 abbrev μ-loop : tie.MeasureT-loop
 μ-loop room₀ n items at₀ i₀ room at i = n - i

@@ -1,7 +1,7 @@
 -- Four stores.
 use native.Mathlib.Omega.{arith}
 use lib.ListN.{length-set}
-use Rattle.sheet_format.proofs.Bytes.{over-four}
+use Rattle.sheet_format.proofs.Bytes.{putAt-four}
 use borrow.Author.Needs.{needs}
 use Rattle.sheet_format.proofs.words.put_four.Statement.{statement}
 use Rattle.sheet_format.proofs.words.put_four.Tie as tie
@@ -31,7 +31,7 @@ same-length : tie.Need-same-length
 same-length c = search needs
 
 returns : tie.Need-returns
-returns c = over-four _ _ _ _ _ _ (c .pre)
+returns c = putAt-four _ _ _ _ _ _ (c .pre)
 
 pub put-four-spec : {M : Type 1} → statement M
 put-four-spec =

@@ -2,7 +2,7 @@
 use Prim.Native.Nat.{_<_}
 use native.Mathlib.Omega.{arith}
 use lib.ListN.{length-set}
-use Rattle.sheet_format.proofs.Bytes.{over-two}
+use Rattle.sheet_format.proofs.Bytes.{putAt-two}
 use borrow.Author.Needs.{needs}
 use Rattle.sheet_format.proofs.words.put_u16.Statement.{statement}
 use Rattle.sheet_format.proofs.words.put_u16.Tie as tie
@@ -28,7 +28,7 @@ same-length c = search needs
 returns : tie.Need-returns
 returns c =
     let small : c .args .x < 65536 = search needs in
-    over-two _ _ _ small (c .pre)
+    putAt-two _ _ _ small (c .pre)
 
 pub put-u16-spec : {M : Type 1} → statement M
 put-u16-spec =

@@ -3,7 +3,7 @@ use Prim.Native.Nat.{_+_}
 use borrow.Author.Needs.{needs}
 use native.Mathlib.Omega.{arith}
 use Rattle.sheet_format.proofs.Bytes.{bytes-four}
-use Rattle.sheet_format.proofs.Stores.{over-words}
+use Rattle.sheet_format.proofs.Stores.{putAt-words}
 use Rattle.sheet_format.proofs.words.put_u32.Statement.{statement}
 use Rattle.sheet_format.proofs.words.put_u32.Tie as tie
 
@@ -28,7 +28,7 @@ same-length c = search needs
 returns : tie.Need-returns
 returns c =
     let s = c .before .before .before .before .before .before .before .before .before in
-    rw (bytes-four (s .args .x)) (over-words 2 2 _ _ (s .args .at) (s .args .at + 2) _ _ _ (c .before .before .before .before .before .before .put-u16 .ensures) (c .before .before .put-u162 .ensures) (omega arith) (omega arith))
+    rw (bytes-four (s .args .x)) (putAt-words 2 2 _ _ (s .args .at) (s .args .at + 2) _ _ _ (c .before .before .before .before .before .before .put-u16 .ensures) (c .before .before .put-u162 .ensures) (omega arith) (omega arith))
 
 pub put-u32-spec : {M : Type 1} → statement M
 put-u32-spec =

@@ -1,6 +1,6 @@
 -- The checks of `describeNumber`, in turn.
 use mathlib.Core.Path.{sym}
-use borrow.Author.Tests.{le-leb, lt-leb, not-true, not-false}
+use borrow.Author.Tests.{le-ltb, lt-ltb, not-true, not-false}
 use Rattle.sheet_format.specs.Write.{describeNumber}
 use borrow.Author.Needs.{needs}
 use Rattle.sheet_format.proofs.writing.description_refusal.Statement.{statement}
@@ -8,7 +8,7 @@ use Rattle.sheet_format.proofs.writing.description_refusal.Tie as tie
 
 returns : tie.Need-returns
 unfolding describeNumber
-returns c = simp (lt-leb _ _ (c .if1 .taken))
+returns c = simp (lt-ltb _ _ (c .if1 .taken))
 
 labels-good-requires : tie.Need-labels-good-requires
 labels-good-requires c κs = search needs
@@ -16,7 +16,7 @@ labels-good-requires c κs = search needs
 returns-2 : tie.Need-returns-2
 unfolding describeNumber
 returns-2 c =
-    simp (le-leb _ _ (c .before .before .if1 .left), sym (c .before .labels-good .ensures), not-true (c .before .labels-good .result) (c .if2 .taken))
+    simp (le-ltb _ _ (c .before .before .if1 .left), sym (c .before .labels-good .ensures), not-true (c .before .labels-good .result) (c .if2 .taken))
 
 targets-good-requires : tie.Need-targets-good-requires
 targets-good-requires c κs = search needs
@@ -25,7 +25,7 @@ returns-3 : tie.Need-returns-3
 unfolding describeNumber
 returns-3 c =
     simp (
-      le-leb _ _ (c .before .before .before .before .if1 .left),
+      le-ltb _ _ (c .before .before .before .before .if1 .left),
       sym (c .before .before .before .labels-good .ensures),
       not-false (c .before .before .before .labels-good .result) (c .before .before .if2 .left),
       sym (c .before .targets-good .ensures),
@@ -36,7 +36,7 @@ returns-4 : tie.Need-returns-4
 unfolding describeNumber
 returns-4 c =
     simp (
-      le-leb _ _ (c .before .before .before .before .if1 .left),
+      le-ltb _ _ (c .before .before .before .before .if1 .left),
       sym (c .before .before .before .labels-good .ensures),
       not-false (c .before .before .before .labels-good .result) (c .before .before .if2 .left),
       sym (c .before .targets-good .ensures),

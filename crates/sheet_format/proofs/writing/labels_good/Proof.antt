@@ -6,7 +6,7 @@ use borrow.Author.Needs.{needs}
 use borrow.Author.Tests.{not-true, not-false}
 use lib.ListN.{length, drop, take}
 use Rattle.steps.specs.Times.{maxEntries}
-use Rattle.label.proofs.Live.{unmapped}
+use Rattle.steps.proofs.Lists.{unmapped}
 use Rattle.sheet_format.specs.Write.{labelsGood}
 use Rattle.sheet_format.proofs.Turns.{live-end, labels-bad, labels-more, labels-end}
 use Rattle.sheet_format.proofs.writing.labels_good.Statement.{statement}

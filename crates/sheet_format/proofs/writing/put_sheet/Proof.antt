@@ -6,9 +6,9 @@ use mathlib.Core.Path.{_≡_, _∙_}
 use native.Mathlib.Omega.{arith}
 use lib.ListN.{length}
 use Rattle.steps.specs.Times.{maxEntries}
-use Rattle.label.proofs.Live.{unmapped}
+use Rattle.steps.proofs.Lists.{unmapped}
 use Rattle.sheet_format.specs.Descriptions.{itemsIn}
-use Rattle.sheet_format.proofs.Stores.{over-parts}
+use Rattle.sheet_format.proofs.Stores.{putAt-parts}
 use Rattle.sheet_format.proofs.Turns.{length-pairs, length-records}
 use borrow.Author.Needs.{needs}
 use Rattle.sheet_format.proofs.writing.put_sheet.Statement.{statement}
@@ -60,7 +60,7 @@ returns c =
     let g = fitting (s .args .d) (length (s .args .room .now)) h (s .pre .0) (s .pre .1) in
     let d = s .args .d in
     let e = c .before .before .before .labels-at .ensures in
-    over-parts (headerBytes (d .count) (d .looping) (d .«time_scale»)) (pairsOf (labelsAt (d .count)) (itemsIn d)) (recordsOf (itemsIn d)) (textsOf (itemsIn d)) (d .count) (c .before .before .before .labels-at .result) _ _ _ _ _
+    putAt-parts (headerBytes (d .count) (d .looping) (d .«time_scale»)) (pairsOf (labelsAt (d .count)) (itemsIn d)) (recordsOf (itemsIn d)) (textsOf (itemsIn d)) (d .count) (c .before .before .before .labels-at .result) _ _ _ _ _
     (length-header (d .count) (d .looping) (d .«time_scale»))
     (length-pairs (labelsAt (d .count)) (itemsIn d) ∙ rw (g .items))
     (length-records (itemsIn d) ∙ rw (g .items))

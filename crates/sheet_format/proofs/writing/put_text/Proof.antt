@@ -1,5 +1,5 @@
 -- The first i bytes of the text are written.
-use Rattle.sheet_format.proofs.Stores.{paste-over}
+use Rattle.sheet_format.proofs.Stores.{paste-putAt}
 use Prim.Native.Nat.{_+_, _≤_, _-_}
 use mathlib.Core.Path.{_≡_, refl, _∙_}
 use native.Mathlib.Numerals.{add-one}
@@ -7,7 +7,6 @@ use native.Mathlib.Omega.{arith}
 use borrow.Author.Needs.{needs}
 use lib.ListN.{length, length-take, length-set}
 use lib.Seq.{paste, paste-zero, paste-suc}
-use Rattle.label.specs.Label.{text}
 use Rattle.sheet_format.proofs.writing.put_text.Statement.{statement}
 use Rattle.sheet_format.proofs.writing.put_text.Tie as tie
 
@@ -23,14 +22,14 @@ text-len-requires c κs = search needs
 loop-holds : tie.Need-loop-holds Inv-loop μ-loop
 loop-holds c =
     let a = c .before .before .before .args in
-    let e = c .before .text-len .ensures .0 in
+    let e = c .before .text-len .ensures .2 in
     (omega arith, omega (arith, length-take (a .l .len) (a .l .bytes)), omega arith, refl, paste-zero (a .room .now) (a .at) (a .l .bytes))
 
-add-place : tie.Need-add-place Inv-loop μ-loop
-add-place c = omega arith
+add-offset : tie.Need-add-offset Inv-loop μ-loop
+add-offset c = omega arith
 
 array-read-room : tie.Need-array-read-room Inv-loop μ-loop
-array-read-room c = omega (arith, c .before .before .before .text-len .ensures .1)
+array-read-room c = omega (arith, c .before .before .before .text-len .ensures .3)
 
 slice-write-room : tie.Need-slice-write-room Inv-loop μ-loop
 slice-write-room c = omega arith
@@ -59,8 +58,8 @@ returns : tie.Need-returns Inv-loop μ-loop
 returns c =
     let at = c .before in
     let a = c .before .before .before .before .before .args in
-    let e = c .before .before .before .text-len .ensures .0 in
-    at .loop .inv .4 ∙ paste-over (a .l .len) (a .l .bytes) (at .loop .i) (a .at) (a .room .now) (omega arith)
+    let e = c .before .before .before .text-len .ensures .2 in
+    at .loop .inv .4 ∙ paste-putAt (a .l .len) (a .l .bytes) (at .loop .i) (a .at) (a .room .now) (omega arith)
 
 pub put-text-spec : {M : Type 1} → statement M
 put-text-spec =
@@ -70,7 +69,7 @@ put-text-spec =
     μ-loop
     text-len-requires
     loop-holds
-    add-place
+    add-offset
     array-read-room
     slice-write-room
     add-i

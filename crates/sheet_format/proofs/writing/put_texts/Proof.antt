@@ -5,8 +5,8 @@ use native.Mathlib.Omega.{arith}
 use borrow.Author.Needs.{needs}
 use lib.ListN.{length, drop, take}
 use Rattle.steps.specs.Times.{maxEntries}
-use Rattle.label.proofs.Live.{unmapped}
-use Rattle.digits.specs.Digits.{over}
+use Rattle.steps.proofs.Lists.{unmapped}
+use Rattle.digits.specs.Digits.{putAt}
 use Rattle.sheet_format.specs.Write.{textsOf}
 use Rattle.sheet_format.proofs.Stores.{Left, all-left}
 use Rattle.sheet_format.proofs.Turns.{unread, texts-count}
@@ -16,7 +16,7 @@ use Rattle.sheet_format.proofs.writing.put_texts.Tie as tie
 
 abbrev Inv-loop : tie.InvT-loop
 Inv-loop room₀ n start items at₀ i₀ room at i =
-    (i ≤ n) × (n ≤ length items) × (n ≤ maxEntries) × Left (over (textsOf (take n items)) start room₀) (textsOf (drop i (take n items))) at room₀ room
+    (i ≤ n) × (n ≤ length items) × (n ≤ maxEntries) × Left (putAt (textsOf (take n items)) start room₀) (textsOf (drop i (take n items))) at room₀ room
 
 abbrev μ-loop : tie.MeasureT-loop
 μ-loop room₀ n start items at₀ i₀ room at i = n - i
@@ -45,7 +45,7 @@ text-len-requires c κs = search needs
 add-at : tie.Need-add-at Inv-loop μ-loop
 add-at c =
     let at = c .before .before .before .before .before .before .before .before in
-    let count = texts-count (c .before .before .before .before .before .before .before .before .before .before .args .n) (at .loop .i) (c .before .before .before .before .before .before .before .before .before .before .args .t2) _ _ (c .text-len .ensures .0) (omega arith) (at .loop .inv .1) in
+    let count = texts-count (c .before .before .before .before .before .before .before .before .before .before .args .n) (at .loop .i) (c .before .before .before .before .before .before .before .before .before .before .args .t2) _ _ (c .text-len .ensures .2) (omega arith) (at .loop .inv .1) in
     omega arith
 
 add-i : tie.Need-add-i Inv-loop μ-loop
@@ -57,7 +57,7 @@ loop-less c = omega arith
 loop-again : tie.Need-loop-again Inv-loop μ-loop
 loop-again c =
     let at = c .before .before .before .before .before .before .before .before in
-    (omega arith, at .loop .inv .1, at .loop .inv .2, texts-left _ _ _ _ (c .before .before .before .before .before .before .before .before .before .before .args .t2) _ _ _ (at .loop .at) (omega arith) (at .loop .inv .1) _ (c .text-len .ensures .0) (at .loop .inv .3) (c .before .before .before .put-text .ensures))
+    (omega arith, at .loop .inv .1, at .loop .inv .2, texts-left _ _ _ _ (c .before .before .before .before .before .before .before .before .before .before .args .t2) _ _ _ (at .loop .at) (omega arith) (at .loop .inv .1) _ (c .text-len .ensures .2) (at .loop .inv .3) (c .before .before .before .put-text .ensures))
 
 same-length : tie.Need-same-length Inv-loop μ-loop
 same-length c = c .before .loop .inv .3 .same

@@ -6,7 +6,7 @@ use native.Mathlib.Omega.{arith}
 use borrow.Author.Needs.{needs}
 use lib.ListN.{length, drop, take}
 use Rattle.steps.specs.Times.{maxEntries}
-use Rattle.label.proofs.Live.{unmapped}
+use Rattle.steps.proofs.Lists.{unmapped}
 use Rattle.sheet_format.specs.Write.{textsOf}
 use Rattle.sheet_format.proofs.writing.texts_len.Statement.{statement}
 use Rattle.sheet_format.proofs.writing.texts_len.Tie as tie
@@ -32,7 +32,7 @@ text-len-requires : tie.Need-text-len-requires Inv-loop μ-loop
 text-len-requires c κs = search needs
 
 add-len : tie.Need-add-len Inv-loop μ-loop
-add-len c = omega (arith, c .text-len .ensures .1)
+add-len c = omega (arith, c .text-len .ensures .3)
 
 add-i : tie.Need-add-i Inv-loop μ-loop
 add-i c = omega arith
@@ -44,8 +44,8 @@ loop-again : tie.Need-loop-again Inv-loop μ-loop
 loop-again c =
     let at = c .before .before .before .before in
     let n = c .before .before .before .before .before .args .n in
-    let count = texts-count n (at .loop .i) (c .before .before .before .before .before .args .t1) _ _ (c .text-len .ensures .0) (omega arith) (at .loop .inv .1) in
-    (omega arith, at .loop .inv .1, at .loop .inv .2, omega (arith, c .text-len .ensures .1), omega arith)
+    let count = texts-count n (at .loop .i) (c .before .before .before .before .before .args .t1) _ _ (c .text-len .ensures .2) (omega arith) (at .loop .inv .1) in
+    (omega arith, at .loop .inv .1, at .loop .inv .2, omega (arith, c .text-len .ensures .3), omega arith)
 
 returns : tie.Need-returns Inv-loop μ-loop
 returns c =

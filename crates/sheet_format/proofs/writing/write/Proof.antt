@@ -1,7 +1,7 @@
 -- Refused, too short, or written whole.
 use native.Mathlib.Nat.{zero-add}
 use Rattle.steps.specs.Times.{maxEntries}
-use Rattle.label.proofs.Live.{unmapped}
+use Rattle.steps.proofs.Lists.{unmapped}
 use Rattle.sheet_format.proofs.Sheets.{described, length-items, length-sheet, write-refused, write-short, write-whole}
 use Prim.Native.Nat.{_+_}
 use mathlib.Core.Path.{_≡_, sym, _∙_}

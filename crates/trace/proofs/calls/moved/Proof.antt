@@ -1,7 +1,7 @@
 -- `trace::calls::moved` is safe: each slice has the places that are lent.
 use native.Mathlib.Omega.{arith}
 use borrow.Author.Needs.{needs}
-use Rattle.trace.proofs.Room.{front}
+use Rattle.case_io.proofs.Room.{front}
 use Rattle.trace.proofs.calls.moved.Statement.{statement}
 use Rattle.trace.proofs.calls.moved.Tie as tie
 

@@ -1,7 +1,7 @@
 -- `trace::calls::updated` is safe: each slice has the places that are lent.
 use borrow.Author.Needs.{needs}
 use native.Mathlib.Omega.{arith}
-use Rattle.trace.proofs.Room.{front}
+use Rattle.case_io.proofs.Room.{front}
 use Rattle.trace.proofs.calls.updated.Statement.{statement}
 use Rattle.trace.proofs.calls.updated.Tie as tie
 

@@ -1,0 +1,44 @@
+// The line of what a timeline or a group shows of itself.
+use case_io::text::BUFFER;
+use case_io::text::Sink;
+use timeline::introspection::AnimationIntrospection;
+use timeline::introspection::AnimationKind;
+use timeline::introspection::Duration;
+use timeline::introspection::PlaybackState;
+
+// `  introspect kind progress elapsed duration state`
+pub(crate) fn line(sink: Sink, buffer: &mut [u8; BUFFER], shown: AnimationIntrospection) -> Sink {
+    let kind = shown.kind;
+    let duration = shown.duration;
+    let state = shown.state;
+    let s = sink.bytes(buffer, b"  introspect");
+    let s = s.letter(buffer, b' ', kind_letter(kind));
+    let s = s.float(buffer, b' ', shown.progress);
+    let s = s.float(buffer, b' ', shown.elapsed);
+    let s = known(s, buffer, duration);
+    let s = s.letter(buffer, b' ', playback_letter(state));
+    s.byte(buffer, b'\n')
+}
+
+fn kind_letter(kind: AnimationKind) -> u8 {
+    match kind {
+        AnimationKind::Timeline => b'T',
+        AnimationKind::Group => b'G',
+    }
+}
+
+fn known(sink: Sink, buffer: &mut [u8; BUFFER], duration: Duration) -> Sink {
+    match duration {
+        Duration::Finite(secs) => sink.float(buffer, b' ', secs),
+        Duration::Unbounded => sink.letter(buffer, b' ', b'-'),
+    }
+}
+
+fn playback_letter(state: PlaybackState) -> u8 {
+    match state {
+        PlaybackState::Idle => b'I',
+        PlaybackState::Playing => b'P',
+        PlaybackState::Paused => b'H',
+        PlaybackState::Complete => b'C',
+    }
+}
