@@ -175,7 +175,7 @@ sought-is t secs room h =
     most = seek-most (trackRun (t .track)) (run-sound (t .track)) secs
 
 -- every accepted seek, on any timeline
-seeks : (t : Timeline) → Seeks t
+pub seeks : (t : Timeline) → Seeks t
 seeks t secs room a =
     let h = seek-taken t secs room a in
     rw (seek-out t secs room h) (sought-is t secs room h)
