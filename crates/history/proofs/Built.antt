@@ -50,7 +50,7 @@ module _ (t : Timeline) (inv : Invariant t) where
       (λ call p b. plays-same call p)
 
 -- ---- one of these does the same on a timeline of the same entries and mode
-count-live : (t : Timeline) → Invariant t → length (live (t .track)) ≡ t .track .count
+pub count-live : (t : Timeline) → Invariant t → length (live (t .track)) ≡ t .track .count
 count-live t inv = length-take-le (t .track .count) (t .track .entries) (omega (arith, inv .count, inv .entries))
 
 -- accepted there too, and of the same entries and mode after it

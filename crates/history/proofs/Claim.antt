@@ -13,7 +13,7 @@ use Rattle.float32.proofs.Nonneg.{nonneg-no-nan, nonneg-of-ge, zero-le-nonneg}
 use Rattle.steps.specs.declared.Entry.{Entry}
 use Rattle.steps.specs.declared.Stepped.{Stepped}
 use Rattle.steps.specs.Times.{endAt}
-use Rattle.steps.specs.Rows.{stepped, seekRow, cleared, synced}
+use Rattle.steps.specs.Rows.{stepped, seekRow, resetStep, synced}
 use Rattle.clock.specs.declared.TimelineState.{TimelineState}
 use Rattle.clock.specs.declared.TimelineState.the-variants.{Idle, Playing, Paused, Completed}
 use Rattle.track.specs.declared.track.Track.{Track}
@@ -82,10 +82,10 @@ module _ (t u : Timeline) (s : SameEntries t u) (secs : Float) where
 
 -- ---- 2. one step for each entry
 synced-one : (t : Float) (e : Entry) → OneStep (synced t e .row)
-unfolding synced cleared
+unfolding synced resetStep
 synced-one t e = go (le t (e .start)) (le (endAt e) t || eq (e .duration) zeroF)
   where
-    go : (a b : Bool) → OneStep (cond a cleared (cond b (stepped (seekRow oneF) true) (stepped (seekRow (div binary32 (sub binary32 t (e .start)) (e .duration))) false)) .row)
+    go : (a b : Bool) → OneStep (cond a resetStep (cond b (stepped (seekRow oneF) true) (stepped (seekRow (div binary32 (sub binary32 t (e .start)) (e .duration))) false)) .row)
     go true b = inl refl
     go false true = inr refl
     go false false = inr refl
@@ -175,7 +175,7 @@ sought-is t secs room h =
     most = seek-most (trackRun (t .track)) (run-sound (t .track)) secs
 
 -- every accepted seek, on any timeline
-seeks : (t : Timeline) → Seeks t
+pub seeks : (t : Timeline) → Seeks t
 seeks t secs room a =
     let h = seek-taken t secs room a in
     rw (seek-out t secs room h) (sought-is t secs room h)

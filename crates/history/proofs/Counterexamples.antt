@@ -9,12 +9,12 @@ use Rattle.float32.specs.Helpers.{zeroF, oneF, infinityF, maxF, minF, finiteF}
 use Rattle.tween.specs.declared.loop_mode.Loop.the-variants.{Times, Forever}
 use Rattle.steps.specs.declared.Row.{Row}
 use Rattle.steps.specs.Times.{twoF, baseOf, timesRun, runOf, timesLocal, localTime}
-use Rattle.steps.specs.Rows.{synced, cleared, ticked, tickedIn, tickedOver, tickRow}
-use Rattle.walk.specs.Completions.{completes, inCycle, cycleStart, breaksAt, stopsAt, cycles, completionsIn, completionsBetween}
+use Rattle.steps.specs.Rows.{resetStep, synced, ticked}
+use Rattle.completions.specs.Completions.{completes, inCycle, cycleStart, breaksAt, stopsAt, cycles, completionsIn, completionsBetween}
 use Rattle.clock.specs.declared.TimelineState.the-variants.{Completed}
-use Rattle.clock.specs.Clocks.{playRule, isPlaying, isCompleted, withState, scaled, started, playState, played, seekTo, seekState, sought, nextElapsed, advancedClock}
+use Rattle.clock.specs.Clocks.{playRule, isPlaying, isCompleted, withState, scaled, started, playState, played, seekTo, seekState, sought, nextElapsed, reachOf, advancedClock}
 use Rattle.track.specs.Tracks.{trackBase, trackRun, emptyTrack}
-use Rattle.track.specs.Updates.{aboveOne, ticks, newlyDone, tickedTo, syncedTo, playing}
+use Rattle.track.specs.Updates.{aboveOne, ticks, newlyDone, advanced, playing}
 use Rattle.track.specs.Calls.{Room, Looping, SetTimeScale, Play, Update, sent, soughtTo, advancedTo, updated, updatedWith, trackStep}
 use Rattle.timeline.specs.declared.timeline.At.the-variants.{Start}
 use Rattle.timeline.specs.declared.timeline.Timeline.{Timeline}
@@ -104,7 +104,7 @@ pub record Refuted : Type 0 where
   pub below-noted : BelowNoted → ⊥
 
 pub refuted : Refuted
-unfolding after step trackStep addedAt resolveStart empty emptyTrack sent soughtTo scaled playRule played started playState withState sought seekState seekTo updatedWith updated advancedTo playing tickedTo syncedTo ticks newlyDone aboveOne nextElapsed advancedClock ticked tickedIn tickedOver tickRow synced cleared baseOf runOf localTime completionsBetween maxF minF ofBits add sub mul div rem lt le eq isNan
+unfolding after step trackStep addedAt resolveStart empty emptyTrack sent soughtTo scaled playRule played started playState withState sought seekState seekTo updatedWith updated advancedTo playing advanced ticks newlyDone aboveOne nextElapsed reachOf advancedClock ticked synced resetStep baseOf runOf localTime completionsBetween maxF minF ofBits add sub mul div rem lt le eq isNan
 refuted =
     record {
       -- one second long, sought to its end and then to 0.5
@@ -147,7 +147,7 @@ pub record Met : Type 0 where
   pub noted-mark : doneMarks atFour ≡ true ∷ []
 
 pub met : Met
-unfolding after step trackStep addedAt resolveStart empty emptyTrack sent soughtTo playRule played started playState withState sought seekState seekTo updatedWith updated advancedTo playing syncedTo aboveOne nextElapsed advancedClock synced cleared baseOf timesRun runOf timesLocal localTime completionsBetween completionsIn cycles breaksAt cycleStart inCycle completes stopsAt maxF minF ofBits ofInt toUnsigned add sub mul div rem lt le eq isNan
+unfolding after step trackStep addedAt resolveStart empty emptyTrack sent soughtTo playRule played started playState withState sought seekState seekTo updatedWith updated advancedTo playing advanced aboveOne nextElapsed reachOf advancedClock synced resetStep baseOf timesRun runOf timesLocal localTime completionsBetween completionsIn cycles breaksAt cycleStart inCycle completes stopsAt maxF minF ofBits ofInt toUnsigned add sub mul div rem lt le eq isNan
 met =
     record {
       by-seek = record { before = twice; call = seekAbs fourF two; noted = refl; left = refl; base = refl; number = refl };

@@ -2,7 +2,7 @@
 use mathlib.Core.Path.{_≡_, refl, sym, ap, ap₂, _∙_}
 use mathlib.Core.Logic.{_⊎_, inl, inr}
 use mathlib.Core.Bool.{Bool, true, false, not, _&&_, _||_, Bool·beq, cond, false≢true, or-true}
-use Prim.Native.Nat.{ℕ, _+_, _-_, _*_, _/_, _%_, _<_}
+use Prim.Native.Nat.{ℕ, _+_, _-_, _*_, _%_, _<_}
 use native.Mathlib.Nat.{mul-pos, mul-comm, mul-assoc, mul-right-comm, add-mul, mul-sub, add-zero, zero-mul, zero-mod, mod-zero, mul-div-cancel, mul-mod-left, eq-zero-or-pos, mul-lt-mul-of-pos-right, lt-of-mul-lt-mul-right}
 use borrow.Author.Tests.{eqb-true, eq-eqb, lt-ltb, ltb-true}
 use lib.Arith.{mod-mul}

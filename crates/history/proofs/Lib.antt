@@ -15,5 +15,6 @@ pub mod Synced
 pub mod Places
 pub mod Noted
 pub mod Claim
+pub mod InPlace
 pub mod Covered
 pub mod Counterexamples

@@ -4,27 +4,23 @@ use mathlib.Core.Bool.{Bool, true, false, not, _&&_, true≢false, false≢true}
 use mathlib.Core.List.{List}
 use Prim.Native.Nat.{ℕ}
 use lib.Dec.{eqb}
-use lib.Ieee.{Float, lt, le, eq}
+use lib.Ieee.{Float, lt, eq}
 use borrow.Author.Tests.{not-true}
-use Rattle.float32.specs.Helpers.{zeroF, minF, finiteF}
+use Rattle.float32.specs.Helpers.{zeroF}
 use Rattle.float32.proofs.Order.{le-of-eq, not-lt-of-le}
 use Rattle.refusal.specs.Refusal.{accepted}
-use Rattle.tween.specs.declared.loop_mode.Loop.{Loop}
-use Rattle.tween.specs.declared.loop_mode.Loop.the-variants.{Once, Times, Forever, PingPong, PingPongTimes}
-use Rattle.steps.specs.Times.{runOf}
-use Rattle.clock.specs.declared.TimelineState.{TimelineState}
-use Rattle.clock.specs.declared.TimelineState.the-variants.{Idle, Playing, Paused, Completed}
+use Rattle.tween.specs.LoopMode.{isOnce}
 use Rattle.track.specs.declared.track.Track.{Track}
 use Rattle.clock.specs.Clocks.{isPlaying, nextElapsed}
-use Rattle.track.specs.Tracks.{live, trackBase, trackRun, shareOf}
-use Rattle.track.specs.Updates.{syncedTo, advanced, playing}
-use Rattle.track.specs.Calls.{Room, TrackOut, TrackCall, Looping, SetTimeScale, Play, Pause, Resume, Reset, Seek, SeekAbs, Update, Preview, soughtTo, advancedTo, updatedIn, updated, trackStep}
+use Rattle.track.specs.Tracks.{trackBase, shareOf}
+use Rattle.track.specs.Updates.{playing}
+use Rattle.track.specs.Calls.{Room, TrackOut, TrackCall, Looping, SetTimeScale, Play, Pause, Resume, Reset, Seek, SeekAbs, Update, Preview, soughtTo, updated, trackStep}
 use Rattle.timeline.specs.declared.timeline.Timeline.{Timeline}
 use Rattle.timeline.specs.Placements.{empty}
 use Rattle.timeline.specs.Calls.{Call, On, step, after}
 use Rattle.history.specs.Entries.{SameEntries}
-use Rattle.history.specs.Invariant.{NotBelow, Invariant}
-use Rattle.history.specs.Claim.{isAccepted, isOnce, notes, Noted, stateOf}
+use Rattle.history.specs.Invariant.{Invariant}
+use Rattle.history.specs.Claim.{isAccepted, notes, Noted, stateOf}
 use Rattle.history.proofs.Runs.{next-not-below}
 use Rattle.history.proofs.Spans.{bases}
 use Rattle.history.proofs.Clocks.{SoundClock}
@@ -32,38 +28,13 @@ use Rattle.history.proofs.Kept.{empty-kept, after-kept}
 use Rattle.history.proofs.Calls.{call-by, and-left, and-right}
 use Rattle.history.proofs.Built.{plays-same}
 use Rattle.history.proofs.Sending.{seek-room, seek-is, update-is}
-use Rattle.history.proofs.Synced.{Synced, sought-synced, advanced-synced, bounded-kept, endless-kept}
+use Rattle.history.proofs.Synced.{Synced, sought-synced, advanced-synced}
 
 -- ---- an update while Playing, in a mode other than Once
-module _ (k : Track) (prev next : Float) (h : NotBelow next) (z : eq (trackBase k) zeroF ≡ false) where
-  bounded-synced : (mode : Loop) → k .looping ≡ mode
-      → Synced (advancedTo k (syncedTo mode (live k) (trackBase k) prev next (minF next (runOf mode (trackBase k))) (le (runOf mode (trackBase k)) next)) .track)
-  bounded-synced mode e =
-      subst (λ (m : Loop). Synced (advancedTo k (syncedTo m (live k) (trackBase k) prev next (minF next (runOf m (trackBase k))) (le (runOf m (trackBase k)) next)) .track)) e
-      (advanced-synced k prev next (minF next (trackRun k)) (le (trackRun k) next) (bounded-kept k next h))
-
-  endless-synced : (mode : Loop) → k .looping ≡ mode → finiteF (runOf mode (trackBase k)) ≡ false → Synced (advancedTo k (syncedTo mode (live k) (trackBase k) prev next next false) .track)
-  endless-synced mode e f =
-      subst (λ (m : Loop). Synced (advancedTo k (syncedTo m (live k) (trackBase k) prev next next false) .track)) e
-      (advanced-synced k prev next next false (endless-kept k next h (ap (λ (m : Loop). finiteF (runOf m (trackBase k))) e ∙ f)))
-
-  by-mode : (mode : Loop) (rs : List ℕ) → k .looping ≡ mode → isOnce mode ≡ false → Synced (advancedTo k (advanced mode (live k) (trackBase k) prev next rs) .track)
-  by-mode Once rs e o = absurd (true≢false o)
-  by-mode (Times n) rs e o = bounded-synced (Times n) e
-  by-mode Forever rs e o = endless-synced Forever e (unfold runOf in rw z)
-  by-mode PingPong rs e o = endless-synced PingPong e (unfold runOf in rw z)
-  by-mode (PingPongTimes n) rs e o = bounded-synced (PingPongTimes n) e
-
-module _ (k : Track) (h : SoundClock (k .clock)) (z : eq (trackBase k) zeroF ≡ false) (o : isOnce (k .looping) ≡ false) where
-  playing-synced : (dt : Float) (rs : List ℕ) → Synced (advancedTo k (playing k dt rs) .track)
-  unfolding playing
-  playing-synced dt rs = rw z (by-mode k (k .clock .elapsed) (nextElapsed (k .clock) dt) (next-not-below (k .clock) dt (h .elapsed) (h .scale)) z (k .looping) rs refl o)
-
-  updated-synced : (s : TimelineState) → isPlaying s ≡ true → (dt : Float) (rs : List ℕ) → Synced (updatedIn s k dt rs .track)
-  updated-synced Idle p dt rs = absurd (false≢true p)
-  updated-synced Playing p dt rs = playing-synced dt rs
-  updated-synced Paused p dt rs = absurd (false≢true p)
-  updated-synced Completed p dt rs = absurd (false≢true p)
+module _ (k : Track) (h : SoundClock (k .clock)) (z : eq (trackBase k) zeroF ≡ false) (once : isOnce (k .looping) ≡ false) where
+  updated-synced : isPlaying (k .clock .state) ≡ true → (dt : Float) (rs : List ℕ) → Synced (updated k dt rs .track)
+  unfolding updated playing
+  updated-synced p dt rs = rw (p, z) (advanced-synced k (k .clock .elapsed) (nextElapsed (k .clock) dt) rs (next-not-below (k .clock) dt (h .elapsed) (h .scale)) z once)
 
 -- ---- the noting calls
 module _ (t : Timeline) (inv : Invariant t) where
@@ -77,7 +48,7 @@ module _ (t : Timeline) (inv : Invariant t) where
       let w = and-right (isAccepted t (On (Update dt rs list r))) (isPlaying (stateOf t) && not (isOnce (t .track .looping))) n in
       let o = not-true (isOnce (t .track .looping)) (and-right (isPlaying (stateOf t)) (not (isOnce (t .track .looping))) w) in
       subst (λ (x : TrackOut). Synced (x .track)) (sym (update-is (t .track) dt rs list r a))
-      (unfold updated in updated-synced (t .track) (record { elapsed = inv .elapsed; scale = inv .scale }) z o (stateOf t) (and-left (isPlaying (stateOf t)) (not (isOnce (t .track .looping))) w) dt rs)
+      (updated-synced (t .track) (record { elapsed = inv .elapsed; scale = inv .scale }) z o (and-left (isPlaying (stateOf t)) (not (isOnce (t .track .looping))) w) dt rs)
 
   -- what a noting call leaves
   left-synced : (call : TrackCall) → notes t (On call) ≡ true → eq (trackBase (t .track)) zeroF ≡ false → Synced (step t (On call) .timeline .track)

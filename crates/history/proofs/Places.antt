@@ -13,7 +13,7 @@ use Rattle.tween.specs.declared.loop_mode.Loop.the-variants.{Once, Times, Forev
 use Rattle.steps.specs.declared.Entry.{Entry}
 use Rattle.steps.specs.declared.Row.{Row}
 use Rattle.steps.specs.Times.{twoF, endAt, timesRun, timesLocal, pingPong, localIn, localTime}
-use Rattle.steps.specs.Rows.{stepped, seekRow, cleared, synced}
+use Rattle.steps.specs.Rows.{stepped, seekRow, resetStep, synced}
 use Rattle.history.proofs.Equal.{eq-by, Same, le-same, ge-same, either-same, min-equal, rem-same, sub-forms}
 use Rattle.history.proofs.Synced.{marksAt}
 
@@ -53,10 +53,10 @@ module _ (base : Float) (h : nonnegF base ≡ true) where
 
 -- ---- the marks at a local time
 done-is : (t : Float) (e : Entry) → synced t e .done ≡ cond (le t (e .start)) false (le (endAt e) t || eq (e .duration) zeroF)
-unfolding synced cleared
+unfolding synced resetStep
 done-is t e = go (le t (e .start)) (le (endAt e) t || eq (e .duration) zeroF) (seekRow oneF) _
   where
-    go : (a b : Bool) (r r′ : Row) → cond a cleared (cond b (stepped r true) (stepped r′ false)) .done ≡ cond a false b
+    go : (a b : Bool) (r r′ : Row) → cond a resetStep (cond b (stepped r true) (stepped r′ false)) .done ≡ cond a false b
     go true b r r′ = refl
     go false true r r′ = refl
     go false false r r′ = refl

@@ -13,9 +13,9 @@ use Rattle.tween.specs.declared.loop_mode.Loop.{Loop}
 use Rattle.tween.specs.declared.loop_mode.Loop.the-variants.{Once, Times, Forever, PingPong, PingPongTimes}
 use Rattle.steps.specs.declared.Entry.{Entry}
 use Rattle.steps.specs.Times.{endAt, baseOf, timesRun, runIn, runOf}
-use Rattle.walk.proofs.Ends.{base-of-ends}
+use Rattle.completions.proofs.Ends.{base-of-ends}
 use Rattle.clock.specs.declared.Clock.{Clock}
-use Rattle.clock.specs.Clocks.{seekTo, nextElapsed}
+use Rattle.clock.specs.Clocks.{seekTo, nextElapsed, reachOf}
 use Rattle.history.specs.Invariant.{NotBelow}
 
 -- ---- the base and the run
@@ -103,3 +103,13 @@ next-not-below c dt h k p =
 
 pub min-not-below : (x bound : Float) → NotBelow x → nonnegF bound ≡ true → NotBelow (minF x bound)
 min-not-below x bound h k = min-all x bound NotBelow h (λ p. k)
+
+-- where an update comes to in a base that is not 0: the run bounds it, or is endless
+pub reach-by : (P : Float → Type 0) (mode : Loop) (base next : Float) → eq base zeroF ≡ false
+    → P (minF next (runOf mode base)) → (finiteF (runOf mode base) ≡ false → P next) → P (reachOf mode base next .elapsed)
+unfolding runOf reachOf
+reach-by P Once base next z bounded endless = rw z at bounded
+reach-by P (Times n) base next z bounded endless = rw z at bounded
+reach-by P Forever base next z bounded endless = endless (rw z)
+reach-by P PingPong base next z bounded endless = endless (rw z)
+reach-by P (PingPongTimes n) base next z bounded endless = rw z at bounded

@@ -16,7 +16,7 @@ use Rattle.track.specs.declared.track.Track.{Track}
 use Rattle.clock.specs.Clocks.{seekTo, sought}
 use Rattle.track.specs.Tracks.{live, trackBase, trackRun, rowsOf, moved}
 use Rattle.track.specs.Updates.{repliesBad}
-use Rattle.track.specs.Calls.{Room, TrackOut, short, unless, sent, soughtTo, updated, updatedWith}
+use Rattle.track.specs.Calls.{Room, TrackOut, refusedIf, short, sent, soughtTo, updated, updatedWith}
 
 -- what a rule sends, with room enough
 abbrev pub sentAll : Track → Clock → Rule → TrackOut
@@ -33,14 +33,14 @@ abbrev pub soughtAll : Track → Float → TrackOut
 soughtAll k secs = sentAll k (soughtClock k secs) (Sync (localTime (k .looping) (trackBase k) (seekTo (trackRun k) secs)))
 
 -- refused by a number that is not 0, or not refused
-unless-open : (refused : Bool) (n : ℕ) (k : Track) (o : TrackOut) → eqb n accepted ≡ false → eqb (unless refused n k o .refusal) accepted ≡ true → refused ≡ false
-unless-open true n k o p q = absurd (false≢true (sym p ∙ q))
-unless-open false n k o p q = refl
+refused-open : (refused : Bool) (n : ℕ) (k : Track) (o : TrackOut) → eqb n accepted ≡ false → eqb (refusedIf refused n k o .refusal) accepted ≡ true → refused ≡ false
+refused-open true n k o p q = absurd (false≢true (sym p ∙ q))
+refused-open false n k o p q = refl
 
 module _ (k : Track) (secs : Float) (r : Room) where
   pub seek-room : eqb (soughtTo k secs r .refusal) accepted ≡ true → short r k ≡ false
   unfolding soughtTo sent
-  seek-room a = unless-open (short r k) rowsTooShort k (soughtAll k secs) refl a
+  seek-room a = refused-open (short r k) rowsTooShort k (soughtAll k secs) refl a
 
   pub seek-is : short r k ≡ false → soughtTo k secs r ≡ soughtAll k secs
   unfolding soughtTo sent
@@ -51,8 +51,8 @@ pub update-is : (k : Track) (dt : Float) (rs : List ℕ) (list : ℕ) (r : Room)
 unfolding updatedWith
 update-is k dt rs list r a = go (short r k) (repliesBad rs k) (ltb list (length (updated k dt rs .listed))) (updated k dt rs) a
   where
-    go : (a b c : Bool) (o : TrackOut) → eqb (unless a rowsTooShort k (unless b badReplies k (unless c listTooShort k o)) .refusal) accepted ≡ true
-        → unless a rowsTooShort k (unless b badReplies k (unless c listTooShort k o)) ≡ o
+    go : (a b c : Bool) (o : TrackOut) → eqb (refusedIf a rowsTooShort k (refusedIf b badReplies k (refusedIf c listTooShort k o)) .refusal) accepted ≡ true
+        → refusedIf a rowsTooShort k (refusedIf b badReplies k (refusedIf c listTooShort k o)) ≡ o
     go true b c o e = absurd (false≢true e)
     go false true c o e = absurd (false≢true e)
     go false false true o e = absurd (false≢true e)

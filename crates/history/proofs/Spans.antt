@@ -11,7 +11,7 @@ use Rattle.tween.specs.declared.loop_mode.Loop.{Loop}
 use Rattle.steps.specs.declared.Entry.{Entry}
 use Rattle.steps.specs.Times.{endAt, baseOf, runOf, localTime}
 use Rattle.steps.specs.Rows.{synced}
-use Rattle.walk.proofs.Ends.{base-of-ends}
+use Rattle.completions.proofs.Ends.{base-of-ends}
 use Rattle.label.specs.declared.Label.{Label}
 use Rattle.label.specs.declared.Found.{Found}
 use Rattle.label.specs.declared.Found.the-variants.{At as FoundAt, Nothing}

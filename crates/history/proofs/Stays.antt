@@ -1,6 +1,6 @@
 -- A call on what plays, other than `looping`, keeps the entries but for their marks, the loop mode, and a sound clock.
 use mathlib.Core.Path.{_≡_, refl}
-use mathlib.Core.Bool.{Bool, true, false, true≢false}
+use mathlib.Core.Bool.{Bool, true, false, cond, true≢false}
 use mathlib.Core.List.{List, map}
 use Prim.Native.Nat.{ℕ}
 use lib.Dec.{ltb}
@@ -13,13 +13,11 @@ use Rattle.steps.specs.declared.Rule.the-variants.{Keep, Clear, Sync}
 use Rattle.steps.specs.Times.{localTime}
 use Rattle.steps.specs.Rows.{ruled}
 use Rattle.clock.specs.declared.Clock.{Clock}
-use Rattle.clock.specs.declared.TimelineState.{TimelineState}
-use Rattle.clock.specs.declared.TimelineState.the-variants.{Idle, Playing, Paused, Completed}
 use Rattle.track.specs.declared.track.Track.{Track}
-use Rattle.clock.specs.Clocks.{scaled, cleared, played, pausedState, paused, resumedState, resumed, seekTo, sought, advancedClock}
+use Rattle.clock.specs.Clocks.{isPlaying, scaled, cleared, played, pausedState, paused, resumedState, resumed, seekTo, sought, advancedClock}
 use Rattle.track.specs.Tracks.{live, trackBase, trackRun, shareOf, moved}
 use Rattle.track.specs.Updates.{repliesBad, Advance, playing}
-use Rattle.track.specs.Calls.{Room, TrackCall, Looping, SetTimeScale, Play, Pause, Resume, Reset, Seek, SeekAbs, Update, Preview, TrackOut, short, unless, sent, soughtTo, advancedTo, rested, updatedIn, updated, updatedWith, previewed, withClock, trackStep}
+use Rattle.track.specs.Calls.{Room, TrackCall, Looping, SetTimeScale, Play, Pause, Resume, Reset, Seek, SeekAbs, Update, Preview, TrackOut, refusedIf, short, sent, soughtTo, advancedTo, rested, updated, updatedWith, previewed, withClock, trackStep}
 use Rattle.timeline.specs.Calls.{On}
 use Rattle.history.specs.Entries.{spanOf}
 use Rattle.history.specs.Claim.{builds}
@@ -43,13 +41,13 @@ module _ (k : Track) (h : SoundClock (k .clock)) where
   moved-stays : (c : Clock) (ss : List Stepped) → SoundClock c → length ss ≡ length (live k) → Stays k (moved k c ss)
   moved-stays c ss p each = record { count = refl; long = moved-long k c ss each; spans = moved-spans k c ss each; looping = refl; clock = p }
 
-  unless-stays : (b : Bool) (n : ℕ) (o : TrackOut) → Stays k (o .track) → Stays k (unless b n k o .track)
-  unless-stays true n o s = clock-stays (k .clock) h
-  unless-stays false n o s = s
+  refused-stays : (b : Bool) (n : ℕ) (o : TrackOut) → Stays k (o .track) → Stays k (refusedIf b n k o .track)
+  refused-stays true n o s = clock-stays (k .clock) h
+  refused-stays false n o s = s
 
   sent-stays : (c : Clock) (rule : Rule) (r : Room) → SoundClock c → Stays k (sent k c rule r .track)
   unfolding sent
-  sent-stays c rule r p = unless-stays (short r k) rowsTooShort _ (moved-stays c (map (ruled rule) (live k)) p (length-map (live k) (ruled rule)))
+  sent-stays c rule r p = refused-stays (short r k) rowsTooShort _ (moved-stays c (map (ruled rule) (live k)) p (length-map (live k) (ruled rule)))
 
   sought-stays : (secs : Float) (r : Room) → Stays k (soughtTo k secs r .track)
   unfolding soughtTo
@@ -58,30 +56,32 @@ module _ (k : Track) (h : SoundClock (k .clock)) where
       sent-stays (sought (k .clock) (trackRun k) elapsed) (Sync (localTime (k .looping) (trackBase k) elapsed)) r
       (sought-sound (k .clock) h (trackRun k) elapsed (seek-nonneg (trackRun k) (run-nonneg (k .looping) (trackBase k) (base-nonneg (live k))) secs))
 
-  rested-stays : (running : Bool) → Stays k (rested k running .track)
+  rested-stays : Stays k (rested k .track)
   unfolding rested
-  rested-stays running = moved-stays (k .clock) (map (ruled Keep) (live k)) h (length-map (live k) (ruled Keep))
+  rested-stays = moved-stays (k .clock) (map (ruled Keep) (live k)) h (length-map (live k) (ruled Keep))
 
   advanced-stays : (a : Advance) → SoundAdvance k a → Stays k (advancedTo k a .track)
   unfolding advancedTo
-  advanced-stays a s = moved-stays (advancedClock (k .clock) (a .elapsed) (a .ended)) (a .steps) (advanced-sound (k .clock) h (a .elapsed) (a .ended) (s .elapsed)) (s .each)
+  advanced-stays a s = moved-stays (advancedClock (k .clock) (a .reach .elapsed) (a .reach .ended)) (a .steps) (advanced-sound (k .clock) h (a .reach .elapsed) (a .reach .ended) (s .elapsed)) (s .each)
 
-  updated-in-stays : (s : TimelineState) (dt : Float) (rs : List ℕ) → Stays k (updatedIn s k dt rs .track)
-  updated-in-stays Idle dt rs = rested-stays true
-  updated-in-stays Playing dt rs = advanced-stays (playing k dt rs) (playing-advance k h dt rs)
-  updated-in-stays Paused dt rs = rested-stays true
-  updated-in-stays Completed dt rs = rested-stays false
+  updated-stays : (dt : Float) (rs : List ℕ) → Stays k (updated k dt rs .track)
+  unfolding updated
+  updated-stays dt rs = go (isPlaying (k .clock .state))
+    where
+      go : (b : Bool) → Stays k (cond b (advancedTo k (playing k dt rs)) (rested k) .track)
+      go true = advanced-stays (playing k dt rs) (playing-advance k h dt rs)
+      go false = rested-stays
 
-  updated-stays : (dt : Float) (rs : List ℕ) (list : ℕ) (r : Room) → Stays k (updatedWith k dt rs list r .track)
-  unfolding updatedWith updated
-  updated-stays dt rs list r =
-      unless-stays (short r k) rowsTooShort _
-      (unless-stays (repliesBad rs k) badReplies _
-      (unless-stays (ltb list (length (updated k dt rs .listed))) listTooShort _ (updated-in-stays (k .clock .state) dt rs)))
+  updated-with-stays : (dt : Float) (rs : List ℕ) (list : ℕ) (r : Room) → Stays k (updatedWith k dt rs list r .track)
+  unfolding updatedWith
+  updated-with-stays dt rs list r =
+      refused-stays (short r k) rowsTooShort _
+      (refused-stays (repliesBad rs k) badReplies _
+      (refused-stays (ltb list (length (updated k dt rs .listed))) listTooShort _ (updated-stays dt rs)))
 
   previewed-stays : (dt : Float) (r : Room) → Stays k (previewed k dt r .track)
   unfolding previewed
-  previewed-stays dt r = unless-stays (short r k) rowsTooShort _ (clock-stays (k .clock) h)
+  previewed-stays dt r = refused-stays (short r k) rowsTooShort _ (clock-stays (k .clock) h)
 
   pub stays : (call : TrackCall) → builds (On call) ≡ false → Stays k (trackStep k call .track)
   unfolding trackStep
@@ -93,5 +93,5 @@ module _ (k : Track) (h : SoundClock (k .clock)) where
   stays (Reset r) b = sent-stays (cleared (k .clock)) Clear r (cleared-sound (k .clock) h)
   stays (Seek share r) b = sought-stays (shareOf k share) r
   stays (SeekAbs secs r) b = sought-stays secs r
-  stays (Update dt rs list r) b = updated-stays dt rs list r
+  stays (Update dt rs list r) b = updated-with-stays dt rs list r
   stays (Preview dt r) b = previewed-stays dt r

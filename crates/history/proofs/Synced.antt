@@ -2,24 +2,26 @@
 use mathlib.Core.Path.{_≡_, refl, sym, ap, _∙_}
 use mathlib.Core.Bool.{Bool, true, false}
 use mathlib.Core.List.{List, map, map-map}
+use Prim.Native.Nat.{ℕ}
 use lib.ListN.{length, length-map}
-use lib.Ieee.{Float, isNan}
-use Rattle.float32.specs.Helpers.{minF, finiteF, nonnegF}
+use lib.Ieee.{Float, eq, isNan}
+use Rattle.float32.specs.Helpers.{zeroF, minF, finiteF, nonnegF}
 use Rattle.float32.proofs.MaxMin.{min-le}
 use Rattle.float32.proofs.Nonneg.{nonneg-no-nan}
+use Rattle.tween.specs.LoopMode.{isOnce}
 use Rattle.steps.specs.declared.Entry.{Entry}
 use Rattle.steps.specs.declared.Stepped.{Stepped}
 use Rattle.steps.specs.Times.{runOf, localTime}
 use Rattle.steps.specs.Rows.{synced}
 use Rattle.clock.specs.declared.Clock.{Clock}
 use Rattle.track.specs.declared.track.Track.{Track}
-use Rattle.clock.specs.Clocks.{seekTo, sought, advancedClock}
+use Rattle.clock.specs.Clocks.{seekTo, sought, reachOf, advancedClock}
 use Rattle.track.specs.Tracks.{live, trackBase, trackRun, moved}
-use Rattle.track.specs.Updates.{syncedTo}
+use Rattle.track.specs.Updates.{advanced}
 use Rattle.track.specs.Calls.{advancedTo}
 use Rattle.history.specs.Entries.{spanOf}
 use Rattle.history.specs.Invariant.{NotBelow}
-use Rattle.history.proofs.Runs.{base-nonneg, run-nonneg, seek-nonneg, seek-most, seek-stays, endless-most, min-not-below}
+use Rattle.history.proofs.Runs.{base-nonneg, run-nonneg, seek-nonneg, seek-most, seek-stays, endless-most, min-not-below, reach-by}
 use Rattle.history.proofs.Spans.{map-same, base-same}
 use Rattle.history.proofs.Marks.{moved-spans, moved-done}
 use Rattle.history.proofs.Sending.{soughtClock, soughtAll}
@@ -77,14 +79,17 @@ module _ (k : Track) where
   unfolding sought
   sought-synced secs = sync-synced k (soughtClock k secs) (λ p. seek-stays (trackRun k) run-sound (seekTo (trackRun k) secs) (seek-nonneg (trackRun k) run-sound secs) (seek-most (trackRun k) run-sound secs))
 
-  -- an update to a place that a seek keeps
-  pub advanced-synced : (prev next elapsed : Float) (ended : Bool) → Keeps k elapsed → Synced (advancedTo k (syncedTo (k .looping) (live k) (trackBase k) prev next elapsed ended) .track)
-  unfolding advancedTo syncedTo advancedClock
-  advanced-synced prev next elapsed ended h = sync-synced k (advancedClock (k .clock) elapsed ended) h
-
-  pub bounded-kept : (next : Float) → NotBelow next → Keeps k (minF next (trackRun k))
+  -- where the run bounds the update, and where it is endless
+  bounded-kept : (next : Float) → NotBelow next → Keeps k (minF next (trackRun k))
   bounded-kept next h p =
       seek-stays (trackRun k) run-sound (minF next (trackRun k)) (min-not-below next (trackRun k) h run-sound p) (min-le next (trackRun k) (nonneg-no-nan (trackRun k) run-sound))
 
-  pub endless-kept : (next : Float) → NotBelow next → finiteF (trackRun k) ≡ false → Keeps k next
+  endless-kept : (next : Float) → NotBelow next → finiteF (trackRun k) ≡ false → Keeps k next
   endless-kept next h e p = seek-stays (trackRun k) run-sound next (h p) (endless-most (trackRun k) run-sound next e p)
+
+  pub advanced-synced : (prev next : Float) (rs : List ℕ) → NotBelow next → eq (trackBase k) zeroF ≡ false → isOnce (k .looping) ≡ false
+      → Synced (advancedTo k (advanced (k .looping) (live k) (trackBase k) prev next rs) .track)
+  unfolding advancedTo advanced advancedClock
+  advanced-synced prev next rs h z once =
+      let to = reachOf (k .looping) (trackBase k) next in
+      rw once (sync-synced k (advancedClock (k .clock) (to .elapsed) (to .ended)) (reach-by (Keeps k) (k .looping) (trackBase k) next z (bounded-kept next h) (endless-kept next h)))

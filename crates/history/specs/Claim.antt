@@ -9,8 +9,7 @@ use lib.ListN.{length}
 use lib.Ieee.{Float, lt, le, eq, isNan}
 use Rattle.float32.specs.Helpers.{zeroF, finiteF}
 use Rattle.refusal.specs.Refusal.{accepted}
-use Rattle.tween.specs.declared.loop_mode.Loop.{Loop}
-use Rattle.tween.specs.declared.loop_mode.Loop.the-variants.{Once, Times, Forever, PingPong, PingPongTimes}
+use Rattle.tween.specs.LoopMode.{isOnce}
 use Rattle.steps.specs.declared.Row.{Row}
 use Rattle.steps.specs.Rows.{row}
 use Rattle.clock.specs.declared.TimelineState.{TimelineState}
@@ -80,14 +79,6 @@ pub record OwnBuilt (calls : List Call) (t : Timeline) : Type 0 where
   pub same : SameEntries t (after empty (ownBuild empty calls))
 
 -- ---- noted places
-
--- the mode that plays once, in which updates note no place
-abbrev pub isOnce : Loop → Bool
-isOnce Once = true
-isOnce (Times n) = false
-isOnce Forever = false
-isOnce PingPong = false
-isOnce (PingPongTimes n) = false
 
 -- an accepted seek of either kind, or an accepted update while Playing in a mode other than Once
 abbrev pub notes : Timeline → Call → Bool

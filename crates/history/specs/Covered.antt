@@ -10,6 +10,7 @@ use Rattle.timeline.specs.Calls.{Call, withTrack, step, after}
 use Rattle.history.specs.Invariant.{Invariant}
 use Rattle.history.specs.Claim.{OwnBuilt, Seeks}
 use Rattle.history.specs.Lent.{lent}
+use Rattle.history.specs.InPlace.{inColumns, gathered, StandsWhole, PlayedInPlace}
 
 -- a list of calls makes the timeline from the empty one
 pub record Covered (t : Timeline) : Type 0 where
@@ -28,6 +29,10 @@ pub record Coverage : Type 0 where
   pub pauses : (t : Timeline) → Covered t → Covered (lent t (paused (t .track .clock)))
   pub resumes : (t : Timeline) → Covered t → Covered (lent t (resumed (t .track .clock)))
   pub scales : (t : Timeline) (x : Float) → Covered t → Covered (lent t (scaled (t .track .clock) x))
+  -- calls made in place, in columns that it is laid out in, are calls of the lists; and what they leave there, gathered
+  pub lays : (t : Timeline) → Covered t → StandsWhole t
+  pub columns : (t : Timeline) (calls : List TrackCall) → Covered t → PlayedInPlace t calls
+  pub gathers : (t : Timeline) (calls : List TrackCall) → Covered t → Covered (gathered t (inColumns t calls))
   -- the claim and the invariant hold of a covered timeline
   pub own : (t : Timeline) (c : Covered t) → OwnBuilt (c .calls) t
   pub seeks : (t : Timeline) → Covered t → Seeks t

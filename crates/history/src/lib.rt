@@ -24,7 +24,7 @@ pub fn lent_calls()
     ensures { λ r. ⌜ LentCalls ⌝ }
 {}
 
-// What lists of calls make is covered, and so is what calls on it, on its track or on its lent clock leave.
+// What lists of calls make is covered, and so is what calls on it, on its track, on its lent clock or in columns leave.
 pub fn calls_covered()
     ensures { λ r. ⌜ Coverage ⌝ }
 {}
