@@ -1,5 +1,5 @@
 use Prim.Native.Nat.{_-_, _≤_, _<_}
-use mathlib.Core.Path.{_≡_, ap, _∙_}
+use mathlib.Core.Path.{_≡_, refl, ap, _∙_}
 use mathlib.Core.Bool.{not, _&&_}
 use native.Mathlib.Omega.{arith}
 use borrow.Author.Needs.{needs}
@@ -18,7 +18,7 @@ use Rattle.player.proofs.entries.tick.Statement.{statement}
 use Rattle.player.proofs.entries.tick.Tie as tie
 
 abbrev Inv-loop : tie.InvT-loop
-Inv-loop n prev next starts durations marks₀ replies list₀ kinds₀ amounts₀ places₀ listed₀ i₀ marks list kinds amounts places listed i = 
+Inv-loop n prev next starts durations marks₀ replies list₀ kinds₀ amounts₀ places₀ listed₀ i₀ marks list kinds amounts places listed i =
     (n ≤ mostEntries)
     × (n ≤ length replies)
     × Kept n (ticks prev next (firstOf n starts durations marks₀) replies) starts durations marks₀ kinds₀ amounts₀ places₀ marks kinds amounts places i
@@ -28,7 +28,7 @@ abbrev μ-loop : tie.MeasureT-loop
 μ-loop n prev next starts durations marks₀ replies list₀ kinds₀ amounts₀ places₀ listed₀ i₀ marks list kinds amounts places listed i = n - i
 
 loop-holds : tie.Need-loop-holds Inv-loop μ-loop
-loop-holds c = 
+loop-holds c =
     let g = c .before .before .before .before .before .before .before .before .args in
     let es = firstOf (g .n) (g .starts .now) (g .durations .now) (g .marks .now) in
     let l : length es ≡ g .n = length-first (g .n) (g .starts .now) (g .durations .now) (g .marks .now) (omega arith) (omega arith) (omega arith) in
@@ -46,8 +46,8 @@ mul-t21 c = omega arith
 shared-slice-read-t23 : tie.Need-shared-slice-read-t23 Inv-loop μ-loop
 shared-slice-read-t23 c = omega arith
 
-slice-read-note : tie.Need-slice-read-note Inv-loop μ-loop
-slice-read-note c = omega arith
+slice-read-t17 : tie.Need-slice-read-t17 Inv-loop μ-loop
+slice-read-t17 c = omega arith
 
 shared-slice-read-tick-entry : tie.Need-shared-slice-read-tick-entry Inv-loop μ-loop
 shared-slice-read-tick-entry c = omega arith
@@ -70,14 +70,8 @@ mul-places c = omega arith
 slice-write-places : tie.Need-slice-write-places Inv-loop μ-loop
 slice-write-places c = omega arith
 
-slice-write-marks : tie.Need-slice-write-marks Inv-loop μ-loop
-slice-write-marks c = omega arith
-
-newly-done-requires : tie.Need-newly-done-requires Inv-loop μ-loop
-newly-done-requires c κs = search needs
-
 note-requires : tie.Need-note-requires Inv-loop μ-loop
-note-requires c κs = 
+note-requires c κs =
     let g = c .before .before .before .before .before .before .before .before .before .before .before .before .before .before .before .before .before .before .args in
     let es = firstOf (g .n) (g .starts .now) (g .durations .now) (g .marks .now) in
     let rs = g .replies .now in
@@ -86,15 +80,14 @@ note-requires c κs =
     let i = l .i in
     let v = l .inv in
     let s = c .before .before .before .tick-entry in
-    let d = c .newly-done in
     let long : length es ≡ g .n = length-first (g .n) (g .starts .now) (g .durations .now) (g .marks .now) (v .2 .room-s) (v .2 .room-d) (v .2 .room-m) in
     let each = length-ticks (g .prev) (g .next) es rs in
     let below : i < g .n = c .before .before .before .before .before .before .before .before .loop-test .taken in
     let h : i < length es = omega (arith, long) in
     let here = next-kept _ _ _ _ _ _ _ _ _ _ _ _ _ (v .2) below in
     let step = turn-at (g .prev) (g .next) es rs i h (omega (arith, below, v .1)) _ _ here (s .ensures) in
-    let newly : d .result ≡ (not (getD es i noEntry .done) && getD ss i noStep .done) = d .ensures ∙ ap (λ (x : Entry). not (x .done) && s .result .done) here ∙ ap (λ (y : Stepped). not (getD es i noEntry .done) && y .done) step in
-    (omega (arith, below, v .0), room-listed _ _ _ each _ _ _ (v .3) h _ newly)
+    let newly = ap (λ (x : Entry). not (x .done) && s .result .done) here ∙ ap (λ (y : Stepped). not (getD es i noEntry .done) && y .done) step in
+    (omega (arith, below, v .0), omega (arith, below, v .2 .room-m, v .2 .same-m), refl, room-listed _ _ _ each _ _ _ (v .3) h _ newly)
 
 add-i : tie.Need-add-i Inv-loop μ-loop
 add-i c = omega arith
@@ -103,25 +96,24 @@ loop-less : tie.Need-loop-less Inv-loop μ-loop
 loop-less c = omega arith
 
 loop-again : tie.Need-loop-again Inv-loop μ-loop
-loop-again c = 
-    let g = c .before .before .before .before .before .before .before .before .before .before .before .before .before .before .before .before .before .before .before .before .before .args in
+loop-again c =
+    let g = c .before .before .before .before .before .before .before .before .before .before .before .before .before .before .before .before .before .before .before .before .before .before .before .args in
     let es = firstOf (g .n) (g .starts .now) (g .durations .now) (g .marks .now) in
     let rs = g .replies .now in
     let ss = ticks (g .prev) (g .next) es rs in
-    let l = c .before .before .before .before .before .before .before .before .before .before .before .before .loop in
+    let l = c .before .before .before .before .before .before .before .before .before .before .before .before .before .before .loop in
     let i = l .i in
     let v = l .inv in
-    let s = c .before .before .before .before .before .before .tick-entry in
-    let d = c .before .before .before .newly-done in
+    let s = c .before .before .before .before .before .before .before .before .tick-entry in
     let long : length es ≡ g .n = length-first (g .n) (g .starts .now) (g .durations .now) (g .marks .now) (v .2 .room-s) (v .2 .room-d) (v .2 .room-m) in
     let each = length-ticks (g .prev) (g .next) es rs in
-    let below : i < g .n = c .before .before .before .before .before .before .before .before .before .before .before .loop-test .taken in
+    let below : i < g .n = c .before .before .before .before .before .before .before .before .before .before .before .before .before .loop-test .taken in
     let h : i < length es = omega (arith, long) in
     let here = next-kept _ _ _ _ _ _ _ _ _ _ _ _ _ (v .2) below in
     let step = turn-at (g .prev) (g .next) es rs i h (omega (arith, below, v .1)) _ _ here (s .ensures) in
-    let newly : d .result ≡ (not (getD es i noEntry .done) && getD ss i noStep .done) = d .ensures ∙ ap (λ (x : Entry). not (x .done) && s .result .done) here ∙ ap (λ (y : Stepped). not (getD es i noEntry .done) && y .done) step in
-    let n = c .before .before .note in
-    (v .0, v .1, one-kept _ _ _ _ _ _ _ _ _ _ _ _ _ (v .2) below _ step, one-listed _ _ _ each _ _ _ (v .3) h _ newly _ _ (n .ensures .1) (n .ensures .0))
+    let newly = ap (λ (x : Entry). not (x .done) && s .result .done) here ∙ ap (λ (y : Stepped). not (getD es i noEntry .done) && y .done) step in
+    let n = c .before .before .before .before .note in
+    (v .0, v .1, one-kept _ _ _ _ _ _ _ _ _ _ _ _ _ (v .2) below _ step _ (n .ensures .2), one-listed _ _ _ each _ _ _ (v .3) h _ newly _ _ (n .ensures .1) (n .ensures .0))
 
 same-length : tie.Need-same-length Inv-loop μ-loop
 same-length c = omega arith
@@ -139,7 +131,7 @@ same-length-5 : tie.Need-same-length-5 Inv-loop μ-loop
 same-length-5 c = omega arith
 
 returns : tie.Need-returns Inv-loop μ-loop
-returns c = 
+returns c =
     let at = c .before in
     let g = c .before .before .before .before .before .before .before .before .before .before .args in
     let v = at .loop .inv in
@@ -160,7 +152,7 @@ tick-spec =
     shared-slice-read-t20
     mul-t21
     shared-slice-read-t23
-    slice-read-note
+    slice-read-t17
     shared-slice-read-tick-entry
     tick-entry-requires
     slice-write-kinds
@@ -168,8 +160,6 @@ tick-spec =
     slice-write-amounts
     mul-places
     slice-write-places
-    slice-write-marks
-    newly-done-requires
     note-requires
     add-i
     loop-less
