@@ -22,6 +22,7 @@ ghost use Rattle.track.specs.Columns.{trackOf};
 ghost use Rattle.track.specs.Updates.{aboveOne, playing};
 ghost use Rattle.track.specs.Calls.{Play, Reset, Seek, SeekAbs};
 ghost use Rattle.track.specs.Answers.{lentTrack, MovesInPlace, UpdatesInPlace, ShowsInPlace};
+ghost use Rattle.player.specs.Loops.{countedAt};
 ghost use Rattle.player.specs.Answered.{answerIn, refusedBy, restingIn, reachedFrom, tickedTo, syncedTo, UpdatesTo};
 
 // The answer of play, reset and the seeks.
@@ -389,7 +390,7 @@ fn copy_marks(n: usize, marks: &[bool], copy: &mut [bool])
     }
 }
 
-// The rows of an update while Playing, with marks that are not kept.
+// The rows of an update while Playing, of the first n entries alone, with marks that are not kept.
 fn show(
     head: Playhead,
     n: usize,
@@ -401,8 +402,8 @@ fn show(
     amounts: &mut [f32],
     places: &mut [f32],
 )
-    requires { ⌜ (n ≡ length (live (trackOf head (now starts) (now durations) (now marks)))) × (n ≤ length (now kinds)) × (n ≤ length (now amounts)) × (n ≤ length (now places)) ⌝ }
-    ensures { λ _. ⌜ Sent (rowsOf (playing (lentTrack head starts durations marks) dt [] .steps)) (now (kinds .entry)) (now (kinds .exit)) (now (amounts .entry)) (now (amounts .exit)) (now (places .entry)) (now (places .exit)) ⌝ }
+    requires { ⌜ (n ≡ length (live (trackOf (countedAt head n) (now starts) (now durations) (now marks)))) × (n ≤ length (now kinds)) × (n ≤ length (now amounts)) × (n ≤ length (now places)) ⌝ }
+    ensures { λ _. ⌜ Sent (rowsOf (playing (lentTrack (countedAt head n) starts durations marks) dt [] .steps)) (now (kinds .entry)) (now (kinds .exit)) (now (amounts .entry)) (now (amounts .exit)) (now (places .entry)) (now (places .exit)) ⌝ }
 {
     let base = completions::base(n, starts, durations);
     if base == 0.0 {
