@@ -85,8 +85,8 @@ module _ (n : ℕ) (xs : List Stepped) (ss ds : List Float) (m₀ : List Bool) (
         ap (entryOf (getD ss i nan) (getD ds i nan)) mark ∙ sym (first-at n ss ds m₀ i h (inv .room-s) (inv .room-d) (inv .room-m))
 
     -- one turn
-    pub one-kept : i < n → (s : Stepped) → s ≡ getD xs i noStep → Kept (set m i (s .done)) (set k i (s .row .kind)) (set a i (s .row .amount)) (set p i (s .row .place)) (i + 1)
-    one-kept h s step =
+    pub one-kept : i < n → (s : Stepped) → s ≡ getD xs i noStep → (m′ : List Bool) → m′ ≡ set m i (s .done) → Kept m′ (set k i (s .row .kind)) (set a i (s .row .amount)) (set p i (s .row .place)) (i + 1)
+    one-kept h s step m′ em =
         let each = inv .each in
         let ld = length-map xs (λ (x : Stepped). x .done) in
         let lk = length-map xs (λ (x : Stepped). x .row .kind) in
@@ -101,11 +101,11 @@ module _ (n : ℕ) (xs : List Stepped) (ss ds : List Float) (m₀ : List Bool) (
           room-k = inv .room-k;
           room-a = inv .room-a;
           room-p = inv .room-p;
-          same-m = length-set m i (s .done) ∙ inv .same-m;
+          same-m = ap length em ∙ length-set m i (s .done) ∙ inv .same-m;
           same-k = length-set k i (s .row .kind) ∙ inv .same-k;
           same-a = length-set a i (s .row .amount) ∙ inv .same-a;
           same-p = length-set p i (s .row .place) ∙ inv .same-p;
-          marks-are = front-more i (doneOf xs) m₀ m (s .done) false (omega arith) (omega arith) (ap (λ (x : Stepped). x .done) step ∙ sym (map-at (λ (x : Stepped). x .done) xs i noStep _ (omega arith))) (inv .marks-are);
+          marks-are = em ∙ front-more i (doneOf xs) m₀ m (s .done) false (omega arith) (omega arith) (ap (λ (x : Stepped). x .done) step ∙ sym (map-at (λ (x : Stepped). x .done) xs i noStep _ (omega arith))) (inv .marks-are);
           kinds = front-more i (kindsOf xs) k₀ k (s .row .kind) 0 (omega arith) (omega arith) (ap (λ (x : Stepped). x .row .kind) step ∙ sym (map-at (λ (x : Stepped). x .row .kind) xs i noStep _ (omega arith))) (inv .kinds);
           amounts = front-more i (amountsOf xs) a₀ a (s .row .amount) nan (omega arith) (omega arith) (ap (λ (x : Stepped). x .row .amount) step ∙ sym (map-at (λ (x : Stepped). x .row .amount) xs i noStep _ (omega arith))) (inv .amounts);
           places = front-more i (placesOf xs) p₀ p (s .row .place) nan (omega arith) (omega arith) (ap (λ (x : Stepped). x .row .place) step ∙ sym (map-at (λ (x : Stepped). x .row .place) xs i noStep _ (omega arith))) (inv .places);

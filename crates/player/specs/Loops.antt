@@ -8,10 +8,15 @@ use lib.Ieee.{Float}
 use Rattle.steps.specs.declared.Entry.{Entry}
 use Rattle.steps.specs.declared.Stepped.{Stepped}
 use Rattle.steps.specs.Slices.{over}
+use Rattle.track.specs.declared.track.Playhead.{Playhead}
 use Rattle.track.specs.Tracks.{doneOf, rowsOf, Sent}
 use Rattle.track.specs.Columns.{firstOf}
 use Rattle.track.specs.Updates.{ticks, newlyDone}
 use Rattle.track.specs.Answers.{Lent}
+
+-- the playhead that plays the first n entries alone
+abbrev pub countedAt : Playhead → ℕ → Playhead
+countedAt h n = record { count = n; clock = h .clock; looping = h .looping }
 
 -- the first n entries of the columns, as they were lent
 abbrev pub lentFirst : ℕ → Lent Float → Lent Float → Lent Bool → List Entry

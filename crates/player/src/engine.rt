@@ -1,6 +1,10 @@
 // The clocked calls of timeline.rs on what plays in three lent columns. Each answers the clock to go on with.
 use crate::entries::apply;
+use crate::entries::outnumber;
+use crate::entries::tick;
 use clock::Clock;
+use completions::Counted;
+use completions::MOST_ENTRIES;
 use steps::Rule;
 use track::track::Playhead;
 use track::track::Secs;
@@ -18,6 +22,7 @@ ghost use Rattle.track.specs.Columns.{trackOf};
 ghost use Rattle.track.specs.Updates.{aboveOne, playing};
 ghost use Rattle.track.specs.Calls.{Play, Reset, Seek, SeekAbs};
 ghost use Rattle.track.specs.Answers.{lentTrack, MovesInPlace, UpdatesInPlace, ShowsInPlace};
+ghost use Rattle.player.specs.Loops.{countedAt};
 ghost use Rattle.player.specs.Answered.{answerIn, refusedBy, restingIn, reachedFrom, tickedTo, syncedTo, UpdatesTo};
 
 // The answer of play, reset and the seeks.
@@ -46,6 +51,22 @@ fn rows_short(n: usize, kinds: usize, amounts: usize, places: usize) -> bool
         return true;
     }
     places < n
+}
+
+// 4: there are fewer replies than n, or one of those is above 1.
+fn replies_bad(replies: &[u8], n: usize) -> bool
+    ensures { λ r. ⌜ r ≡ (ltb (length (now (replies .entry))) n || aboveOne (take n (now (replies .entry)))) ⌝ }
+{
+    if replies.len() < n {
+        return true;
+    }
+    let mut bad = false;
+    let mut i = 0usize;
+    while i < n {
+        bad = steps::either(bad, replies[i] > 1);
+        i += 1;
+    }
+    bad
 }
 
 // The answer of play, reset and the seeks where they are refused by 3.
@@ -255,3 +276,181 @@ fn reached(before: Clock, elapsed: f32, ended: bool, listed: usize) -> Updated
     }
 }
 
+// An update in Once: a tick within the base, if the list has room for the entries that it completes.
+fn ticked(
+    head: Playhead,
+    n: usize,
+    base: f32,
+    next: f32,
+    starts: &[f32],
+    durations: &[f32],
+    marks: &mut [bool],
+    replies: &[u8],
+    list: &mut [u8],
+    kinds: &mut [u8],
+    amounts: &mut [f32],
+    places: &mut [f32],
+) -> Updated
+    requires { ⌜ (n ≡ length (live (trackOf head (now starts) (now durations) (now marks)))) × (n ≤ length (now kinds)) × (n ≤ length (now amounts)) × (n ≤ length (now places)) × (n ≤ length (now replies)) ⌝ }
+    ensures { λ r. ⌜ UpdatesTo head starts durations marks (tickedTo (lentTrack head starts durations marks) base next (now (replies .entry))) r list kinds amounts places ⌝ }
+{
+    let c = head.clock;
+    let from = float32::min(c.elapsed, base);
+    let to = clock::reach_within(base, next);
+    let end = to.elapsed;
+    if outnumber(n, from, end, starts, durations, marks, replies, list.len()) {
+        return refused(refusal::LIST_TOO_SHORT, c);
+    }
+    let listed = tick(n, from, end, starts, durations, marks, replies, list, kinds, amounts, places);
+    reached(c, end, to.ended, listed)
+}
+
+// An update in another mode: the completions are listed, if the list has room for them, and every entry is synchronised.
+fn looped(
+    head: Playhead,
+    n: usize,
+    base: f32,
+    next: f32,
+    starts: &[f32],
+    durations: &[f32],
+    marks: &mut [bool],
+    list: &mut [u8],
+    kinds: &mut [u8],
+    amounts: &mut [f32],
+    places: &mut [f32],
+) -> Updated
+    requires { ⌜ (n ≡ length (live (trackOf head (now starts) (now durations) (now marks)))) × (n ≤ length (now kinds)) × (n ≤ length (now amounts)) × (n ≤ length (now places)) × (base ≡ trackBase (trackOf head (now starts) (now durations) (now marks))) ⌝ }
+    ensures { λ r. ⌜ UpdatesTo head starts durations marks (syncedTo (lentTrack head starts durations marks) base next) r list kinds amounts places ⌝ }
+{
+    let c = head.clock;
+    let mode = head.looping;
+    let to = clock::reach_of(mode, base, next);
+    let end = to.elapsed;
+    let counted = completions::between(n, starts, durations, base, mode, c.elapsed, next, list);
+    match counted {
+        Counted::Within(listed) => {
+            let rule = Rule::Sync(steps::local_time(mode, base, end));
+            apply(n, rule, starts, durations, marks, kinds, amounts, places);
+            reached(c, end, to.ended, listed)
+        }
+        Counted::Over => refused(refusal::LIST_TOO_SHORT, c),
+    }
+}
+
+// `update`, with each leaf's reply. The list takes the numbers of the entries that completed.
+pub fn update(
+    head: Playhead,
+    dt: f32,
+    starts: &[f32],
+    durations: &[f32],
+    marks: &mut [bool],
+    replies: &[u8],
+    list: &mut [u8],
+    kinds: &mut [u8],
+    amounts: &mut [f32],
+    places: &mut [f32],
+) -> Updated
+    ensures { λ r. ⌜ UpdatesInPlace head starts durations marks dt replies (answerIn r) (r .clock) list kinds amounts places ⌝ }
+{
+    let n = track::track::entries_in(head.count, starts.len(), durations.len(), marks.len());
+    let c = head.clock;
+    if rows_short(n, kinds.len(), amounts.len(), places.len()) {
+        return refused(refusal::ROWS_TOO_SHORT, c);
+    }
+    if replies_bad(replies, n) {
+        return refused(refusal::BAD_REPLIES, c);
+    }
+    let state = c.state;
+    if !clock::is_playing(state) {
+        apply(n, Rule::Keep, starts, durations, marks, kinds, amounts, places);
+        return resting(c);
+    }
+    let base = completions::base(n, starts, durations);
+    if base == 0.0 {
+        apply(n, Rule::Keep, starts, durations, marks, kinds, amounts, places);
+        return reached(c, c.elapsed, true, 0);
+    }
+    let next = c.next_elapsed(dt);
+    let mode = head.looping;
+    if tween::loop_mode::is_once(mode) {
+        return ticked(head, n, base, next, starts, durations, marks, replies, list, kinds, amounts, places);
+    }
+    looped(head, n, base, next, starts, durations, marks, list, kinds, amounts, places)
+}
+
+// The first n marks of a column into another.
+fn copy_marks(n: usize, marks: &[bool], copy: &mut [bool])
+    requires { ⌜ (n ≤ length (now marks)) × (n ≤ length (now copy)) ⌝ }
+    ensures { λ _. ⌜ take n (now (copy .exit)) ≡ take n (now (marks .entry)) ⌝ }
+{
+    let mut i = 0usize;
+    while i < n {
+        copy[i] = marks[i];
+        i += 1;
+    }
+}
+
+// The rows of an update while Playing, of the first n entries alone, with marks that are not kept.
+fn show(
+    head: Playhead,
+    n: usize,
+    dt: f32,
+    starts: &[f32],
+    durations: &[f32],
+    marks: &mut [bool],
+    kinds: &mut [u8],
+    amounts: &mut [f32],
+    places: &mut [f32],
+)
+    requires { ⌜ (n ≡ length (live (trackOf (countedAt head n) (now starts) (now durations) (now marks)))) × (n ≤ length (now kinds)) × (n ≤ length (now amounts)) × (n ≤ length (now places)) ⌝ }
+    ensures { λ _. ⌜ Sent (rowsOf (playing (lentTrack (countedAt head n) starts durations marks) dt [] .steps)) (now (kinds .entry)) (now (kinds .exit)) (now (amounts .entry)) (now (amounts .exit)) (now (places .entry)) (now (places .exit)) ⌝ }
+{
+    let base = completions::base(n, starts, durations);
+    if base == 0.0 {
+        apply(n, Rule::Keep, starts, durations, marks, kinds, amounts, places);
+        return;
+    }
+    let c = head.clock;
+    let mode = head.looping;
+    let next = c.next_elapsed(dt);
+    let to = clock::reach_of(mode, base, next);
+    let end = to.elapsed;
+    if tween::loop_mode::is_once(mode) {
+        let from = float32::min(c.elapsed, base);
+        let replies = [1u8; MOST_ENTRIES];
+        let mut list = [0u8; MOST_ENTRIES];
+        tick(n, from, end, starts, durations, marks, &replies, &mut list, kinds, amounts, places);
+        return;
+    }
+    let rule = Rule::Sync(steps::local_time(mode, base, end));
+    apply(n, rule, starts, durations, marks, kinds, amounts, places);
+}
+
+// The rows that `update` with room enough would write: it goes over a copy of the marks. It refuses by 3 only.
+pub fn preview(
+    head: Playhead,
+    dt: f32,
+    starts: &[f32],
+    durations: &[f32],
+    marks: &[bool],
+    kinds: &mut [u8],
+    amounts: &mut [f32],
+    places: &mut [f32],
+) -> u8
+    ensures { λ r. ⌜ ShowsInPlace head starts durations marks dt r kinds amounts places ⌝ }
+{
+    let n = track::track::entries_in(head.count, starts.len(), durations.len(), marks.len());
+    if rows_short(n, kinds.len(), amounts.len(), places.len()) {
+        return refusal::ROWS_TOO_SHORT;
+    }
+    let mut copy = [false; MOST_ENTRIES];
+    copy_marks(n, marks, &mut copy);
+    let c = head.clock;
+    let state = c.state;
+    if clock::is_playing(state) {
+        show(head, n, dt, starts, durations, &mut copy, kinds, amounts, places);
+        return refusal::ACCEPTED;
+    }
+    apply(n, Rule::Keep, starts, durations, &mut copy, kinds, amounts, places);
+    refusal::ACCEPTED
+}

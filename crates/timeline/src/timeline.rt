@@ -28,7 +28,7 @@ ghost use Rattle.track.specs.Columns.{trackOf, withClockAt, regained};
 ghost use Rattle.track.specs.Calls.{Looping, SetTimeScale, Play, Pause, Resume, Reset, Seek, SeekAbs, withClock};
 ghost use Rattle.timeline.specs.Placements.{empty, liveLabels, startFound, namedStart, resolveStart, grown};
 ghost use Rattle.timeline.specs.Calls.{Add, AddBoxed, AddAtLabel, On, addedAt, withTrack, step, addedBy};
-ghost use Rattle.timeline.specs.Answers.{Moves};
+ghost use Rattle.timeline.specs.Answers.{Moves, Updates, Shows};
 ghost use Rattle.timeline.specs.Introspections.{introspected};
 
 // Where an entry starts. The label case carries the number of an entry, and means that entry's label.
@@ -461,6 +461,67 @@ impl Timeline {
     {
         let track = self.track;
         track.playback_duration()
+    }
+
+    // Advances by dt seconds, with each leaf's reply (0 stopped, 1 running). The list takes the numbers of the entries that completed.
+    pub fn update(
+        self,
+        dt: f32,
+        replies: &[u8],
+        list: &mut [u8],
+        kinds: &mut [u8],
+        amounts: &mut [f32],
+        places: &mut [f32],
+    ) -> Updated
+        ensures { λ r. ⌜ Updates self dt replies r list kinds amounts places ⌝ }
+    {
+        let track = self.track;
+        let mut starts = [0.0f32; MAX_ENTRIES];
+        let mut durations = [0.0f32; MAX_ENTRIES];
+        let mut marks = [false; MAX_ENTRIES];
+        let head = track.lay_out(&mut starts, &mut durations, &mut marks);
+        let u = engine::update(
+            head,
+            dt,
+            &starts,
+            &durations,
+            &mut marks,
+            replies,
+            list,
+            kinds,
+            amounts,
+            places,
+        );
+        let clock = u.clock;
+        let timeline = self.left(head, clock, &starts, &durations, &marks);
+        Updated {
+            refusal: u.refusal,
+            running: u.running,
+            completed: u.completed,
+            listed: u.listed,
+            timeline,
+        }
+    }
+
+    // The rows that such an update would write, with room enough; the timeline stays. Answers the refusal.
+    pub fn preview(self, dt: f32, kinds: &mut [u8], amounts: &mut [f32], places: &mut [f32]) -> u8
+        ensures { λ r. ⌜ Shows self dt r kinds amounts places ⌝ }
+    {
+        let track = self.track;
+        let mut starts = [0.0f32; MAX_ENTRIES];
+        let mut durations = [0.0f32; MAX_ENTRIES];
+        let mut marks = [false; MAX_ENTRIES];
+        let head = track.lay_out(&mut starts, &mut durations, &mut marks);
+        engine::preview(
+            head,
+            dt,
+            &starts,
+            &durations,
+            &marks,
+            kinds,
+            amounts,
+            places,
+        )
     }
 
     // What is reported of it: its duration is the run.

@@ -107,21 +107,25 @@ module _ (t : Track) (dt : Float) (rs : List ℕ) where
   unfolding updated
   rests e = rw e
 
-  module _ (plays : isPlaying (t .clock .state) ≡ true) {base : Float} (eb : base ≡ trackBase t) where
-    pub ends-at-once : eq base zeroF ≡ true → updated t dt rs ≡ advancedTo t (endedAt (live t) (t .clock .elapsed))
-    unfolding updated playing
-    ends-at-once e = rw (plays, rw eb at e)
+  pub plays : isPlaying (t .clock .state) ≡ true → {a : Advance} → playing t dt rs ≡ a → updated t dt rs ≡ advancedTo t a
+  unfolding updated
+  plays e ea = rw (e, ea)
+
+  module _ {base : Float} (eb : base ≡ trackBase t) where
+    pub ends-at-once : eq base zeroF ≡ true → playing t dt rs ≡ endedAt (live t) (t .clock .elapsed)
+    unfolding playing
+    ends-at-once e = rw (rw eb at e)
 
     module _ {next : Float} {to : Reach} (e : eq base zeroF ≡ false) (en : next ≡ nextElapsed (t .clock) dt) (et : to ≡ reachOf (t .looping) base next) where
       -- Once ticks
-      pub ticks-on : isOnce (t .looping) ≡ true → updated t dt rs ≡ advancedTo t (record { steps = ticks (minF (t .clock .elapsed) base) (to .elapsed) (live t) rs; listed = newlyDone 0 (live t) (ticks (minF (t .clock .elapsed) base) (to .elapsed) (live t) rs); reach = to })
-      unfolding updated playing advanced
-      ticks-on o = rw (plays, et, en, eb, rw eb at e, o)
+      pub ticks-on : isOnce (t .looping) ≡ true → playing t dt rs ≡ record { steps = ticks (minF (t .clock .elapsed) base) (to .elapsed) (live t) rs; listed = newlyDone 0 (live t) (ticks (minF (t .clock .elapsed) base) (to .elapsed) (live t) rs); reach = to }
+      unfolding playing advanced
+      ticks-on o = rw (et, en, eb, rw eb at e, o)
 
       -- the other modes synchronise
-      pub syncs-on : {time : Float} → isOnce (t .looping) ≡ false → time ≡ localTime (t .looping) base (to .elapsed) → updated t dt rs ≡ advancedTo t (record { steps = map (ruled (Sync time)) (live t); listed = completionsBetween (t .looping) (live t) (t .clock .elapsed) next; reach = to })
-      unfolding updated playing advanced
-      syncs-on o es = rw (plays, es, et, en, eb, rw eb at e, o)
+      pub syncs-on : {time : Float} → isOnce (t .looping) ≡ false → time ≡ localTime (t .looping) base (to .elapsed) → playing t dt rs ≡ record { steps = map (ruled (Sync time)) (live t); listed = completionsBetween (t .looping) (live t) (t .clock .elapsed) next; reach = to }
+      unfolding playing advanced
+      syncs-on o es = rw (es, et, en, eb, rw eb at e, o)
 
 -- ---- what it answers
 

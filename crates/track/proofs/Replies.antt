@@ -1,11 +1,11 @@
 -- The replies: a loop that looks for one above 1, and that no row depends on them.
 use Prim.Native.Nat.{ℕ, _+_, _<_, _≤_}
 use mathlib.Core.Path.{_≡_, refl}
-use mathlib.Core.Bool.{Bool, true, false, cond}
+use mathlib.Core.Bool.{Bool, true, false, cond, _||_}
 use mathlib.Core.List.{List, [], _∷_}
 use native.Mathlib.Numerals.{add-one}
 use native.Mathlib.Omega.{arith}
-use borrow.Author.Tests.{lt-ltb, le-ltb}
+use lib.Dec.{ltb}
 use lib.ListN.{length, getD, take, drop, drop-of-length-le}
 use lib.Seq.{drop-cons, length-take-le}
 use Rattle.steps.proofs.Lists.{part-at}
@@ -20,19 +20,12 @@ use Rattle.track.specs.Tracks.{rowsOf}
 -- ---- one above 1
 
 module _ (rs : List ℕ) (n : ℕ) (long : n ≤ length rs) where
-  -- the reply i is above 1
-  pub bad-here : (i : ℕ) → i < n → 1 < getD rs i 0 → aboveOne (drop i (take n rs)) ≡ true
+  -- the reply i, or one after it
+  pub one-here : (i : ℕ) → i < n → aboveOne (drop i (take n rs)) ≡ (ltb 1 (getD rs i 0) || aboveOne (drop (i + 1) (take n rs)))
   unfolding aboveOne
-  bad-here i h b =
+  one-here i h =
       let l : i < length (take n rs) = omega (arith, length-take-le n rs long) in
-      rw (drop-cons (take n rs) i 0 l, part-at n rs i 0 l, lt-ltb 1 (getD rs i 0) b)
-
-  -- it is not
-  pub good-here : (i : ℕ) → i < n → getD rs i 0 ≤ 1 → aboveOne (drop i (take n rs)) ≡ aboveOne (drop (i + 1) (take n rs))
-  unfolding aboveOne
-  good-here i h b =
-      let l : i < length (take n rs) = omega (arith, length-take-le n rs long) in
-      rw (add-one, drop-cons (take n rs) i 0 l, part-at n rs i 0 l, le-ltb 1 (getD rs i 0) b)
+      rw (add-one, drop-cons (take n rs) i 0 l, part-at n rs i 0 l)
 
   -- there are no more
   pub none-left : (i : ℕ) → n ≤ i → aboveOne (drop i (take n rs)) ≡ false

@@ -1,7 +1,7 @@
 -- A tick, entry by entry: its steps, and the numbers of the entries newly done. The laws that the loops over a tick cite.
 use Prim.Native.Nat.{ℕ, zero, suc, _+_, _<_, _≤_}
 use mathlib.Core.Path.{_≡_, refl, sym, ap, _∙_}
-use mathlib.Core.Bool.{Bool, true, false, not, _&&_, Bool·beq, true≢false, false≢true}
+use mathlib.Core.Bool.{Bool, true, false, not, _&&_}
 use mathlib.Core.List.{List, [], _∷_, _++_}
 use native.Mathlib.Nat.{not-suc-le-zero, le-of-suc-le-suc}
 use native.Mathlib.Numerals.{add-one}
@@ -38,16 +38,6 @@ module _ (prev next : Float) where
   pub turn-at : (es : List Entry) (rs : List ℕ) (i : ℕ) → i < length es → i < length rs → (e : Entry) (s : Stepped) → e ≡ getD es i noEntry → s ≡ ticked prev next e (getD rs i 0) → s ≡ getD (ticks prev next es rs) i noStep
   turn-at es rs i h k e s ee e′ = rw (e′, ee) (sym (ticks-at es rs i h k))
 
-  -- where no reply is looked at
-  pub silent-turn : (es : List Entry) (i : ℕ) → i < length es → (e : Entry) (s : Stepped) → e ≡ getD es i noEntry → s ≡ ticked prev next e 1 → s ≡ getD (ticks prev next es []) i noStep
-  unfolding ticks
-  silent-turn es i h e s ee e′ = rw (e′, ee) (sym (go es i h))
-    where
-      go : (xs : List Entry) (j : ℕ) → j < length xs → getD (ticks prev next xs []) j noStep ≡ ticked prev next (getD xs j noEntry) 1
-      go [] j k = absurd (not-suc-le-zero k)
-      go (x ∷ xs) zero k = refl
-      go (x ∷ xs) (suc j) k = go xs j (le-of-suc-le-suc k)
-
 -- ---- the entries newly done
 
 keep-most : (b : Bool) (i n : ℕ) (xs : List ℕ) → length xs ≤ n → length (keep b i xs) ≤ suc n
@@ -64,19 +54,6 @@ newly-most i (e ∷ es) (s ∷ ss) = keep-most (not (e .done) && s .done) i (len
 keep-first : (b : Bool) (i : ℕ) (xs : List ℕ) → keep b i xs ≡ keep b i [] ++ xs
 keep-first true i xs = refl
 keep-first false i xs = refl
-
--- an entry whose mark changes is newly done where it is done now; one whose mark stays is not
-pub newly-unlike : (d d′ : Bool) → not (Bool·beq d d′) ≡ true → d ≡ (not d′ && d)
-newly-unlike true true e = absurd (false≢true e)
-newly-unlike true false e = refl
-newly-unlike false true e = refl
-newly-unlike false false e = refl
-
-pub newly-alike : (d d′ : Bool) → not (Bool·beq d d′) ≡ false → false ≡ (not d′ && d)
-newly-alike true true e = refl
-newly-alike true false e = absurd (true≢false e)
-newly-alike false true e = refl
-newly-alike false false e = refl
 
 -- those from the entry i on
 unfoldable pub rest : List Entry → List Stepped → ℕ → List ℕ
@@ -128,10 +105,6 @@ module _ (es : List Entry) (ss : List Stepped) (l₀ : List ℕ) where
           count = omega (arith, simp length-append at (ap length turn));
           stores = store-run l k l′ k′ (keep b i []) (rest es ss (i + 1)) (rest es ss i) el ek turn ∙ inv .stores;
         }
-
-  -- one turn of an entry that is not newly done
-  pub one-passed : length ss ≡ length es → (l : List ℕ) (k i : ℕ) → Listing es ss l₀ l k i → i < length es → false ≡ (not (getD es i noEntry .done) && getD ss i noStep .done) → Listing es ss l₀ l k (i + 1)
-  one-passed each l k i inv h newly = one-listed each l k i inv h false newly l k refl (omega arith)
 
   -- after the last turn
   pub all-listed : (l : List ℕ) (k i : ℕ) → Listing es ss l₀ l k i → length es ≤ i → (k ≡ length (newlyDone 0 es ss)) × (l ≡ over (newlyDone 0 es ss) l₀)

@@ -1,5 +1,5 @@
 use Prim.Native.Nat.{_-_}
-use mathlib.Core.Path.{_≡_, sym, ap, _∙_}
+use mathlib.Core.Path.{_≡_, refl, sym, ap, _∙_}
 use mathlib.Core.List.{map}
 use native.Mathlib.Omega.{arith}
 use borrow.Author.Needs.{needs}
@@ -14,14 +14,14 @@ use Rattle.player.proofs.entries.apply.Statement.{statement}
 use Rattle.player.proofs.entries.apply.Tie as tie
 
 abbrev Inv-loop : tie.InvT-loop
-Inv-loop n rule starts durations marks₀ kinds₀ amounts₀ places₀ i₀ marks kinds amounts places i = 
+Inv-loop n rule starts durations marks₀ kinds₀ amounts₀ places₀ i₀ marks kinds amounts places i =
     Kept n (map (ruled rule) (firstOf n starts durations marks₀)) starts durations marks₀ kinds₀ amounts₀ places₀ marks kinds amounts places i
 
 abbrev μ-loop : tie.MeasureT-loop
 μ-loop n rule starts durations marks₀ kinds₀ amounts₀ places₀ i₀ marks kinds amounts places i = n - i
 
 loop-holds : tie.Need-loop-holds Inv-loop μ-loop
-loop-holds c = 
+loop-holds c =
     let g = c .before .before .before .before .before .before .args in
     let es = firstOf (g .n) (g .starts .now) (g .durations .now) (g .marks .now) in
     let l : length es ≡ g .n = length-first (g .n) (g .starts .now) (g .durations .now) (g .marks .now) (omega arith) (omega arith) (omega arith) in
@@ -70,7 +70,7 @@ loop-less : tie.Need-loop-less Inv-loop μ-loop
 loop-less c = omega arith
 
 loop-again : tie.Need-loop-again Inv-loop μ-loop
-loop-again c = 
+loop-again c =
     let at = c .before .before .before .before .before .before in
     let g = at .before .before .before .before .before .before .before .args in
     let l = at .loop in
@@ -78,7 +78,7 @@ loop-again c =
     let long : length es ≡ g .n = length-first (g .n) (g .starts .now) (g .durations .now) (g .marks .now) (l .inv .room-s) (l .inv .room-d) (l .inv .room-m) in
     let here = next-kept _ _ _ _ _ _ _ _ _ _ _ _ _ (l .inv) (omega arith) in
     let own = c .before .step-entry .ensures ∙ ap (ruled (g .rule)) here ∙ sym (map-at (ruled (g .rule)) es (l .i) noEntry noStep (omega (arith, long))) in
-    one-kept _ _ _ _ _ _ _ _ _ _ _ _ _ (l .inv) (omega arith) _ own
+    one-kept _ _ _ _ _ _ _ _ _ _ _ _ _ (l .inv) (omega arith) _ own _ refl
 
 same-length : tie.Need-same-length Inv-loop μ-loop
 same-length c = omega arith
