@@ -1,0 +1,88 @@
+-- `update` is the step that `Update` says.
+use mathlib.Core.Path.{_≡_, refl}
+use borrow.Author.Needs.{needs}
+use lib.ListN.{length}
+use Rattle.steps.specs.Times.{maxEntries}
+use Rattle.steps.proofs.Lists.{unmapped}
+use Rattle.track.specs.Calls.{Update}
+use Rattle.timeline.proofs.Doors.{all-laid, door-updates}
+use Rattle.timeline.proofs.timeline.Timeline.update.Statement.{statement}
+use Rattle.timeline.proofs.timeline.Timeline.update.Tie as tie
+
+slice-aggregate-lay-out : tie.Need-slice-aggregate-lay-out
+slice-aggregate-lay-out c = search needs
+
+slice-aggregate-lay-out-2 : tie.Need-slice-aggregate-lay-out-2
+slice-aggregate-lay-out-2 c = search needs
+
+slice-aggregate-lay-out-3 : tie.Need-slice-aggregate-lay-out-3
+slice-aggregate-lay-out-3 c = search needs
+
+lay-out-requires : tie.Need-lay-out-requires
+lay-out-requires c κs = search needs
+
+slice-aggregate-update : tie.Need-slice-aggregate-update
+slice-aggregate-update c = search needs
+
+slice-aggregate-update-2 : tie.Need-slice-aggregate-update-2
+slice-aggregate-update-2 c = search needs
+
+slice-aggregate-update-3 : tie.Need-slice-aggregate-update-3
+slice-aggregate-update-3 c = search needs
+
+update-requires : tie.Need-update-requires
+update-requires c κs = search needs
+
+slice-aggregate-left : tie.Need-slice-aggregate-left
+slice-aggregate-left c = search needs
+
+slice-aggregate-left-2 : tie.Need-slice-aggregate-left-2
+slice-aggregate-left-2 c = search needs
+
+slice-aggregate-left-3 : tie.Need-slice-aggregate-left-3
+slice-aggregate-left-3 c = search needs
+
+left-requires : tie.Need-left-requires
+left-requires c κs = search needs
+
+same-length : tie.Need-same-length
+same-length c = search needs
+
+same-length-2 : tie.Need-same-length-2
+same-length-2 c = search needs
+
+same-length-3 : tie.Need-same-length-3
+same-length-3 c = search needs
+
+same-length-4 : tie.Need-same-length-4
+same-length-4 c = search needs
+
+returns : tie.Need-returns
+returns c =
+    let start = c .before .before .before .before .before .before .before .before .before .before .before .before .before .before .before .before .before .before .before .before .before .before .before .before .before .before .before .before .before .before .before .before .before .before .before in
+    let t = start .args .self in
+    let own = start .good .0 .0 in
+    let long : length (t .track .entries) ≡ maxEntries = search (unmapped, needs, own) in
+    door-updates t long (Update _ _ _ _) (all-laid (t .track) long refl (c .before .before .before .before .before .before .before .before .before .before .before .before .before .before .before .before .before .before .before .before .before .before .before .before .before .lay-out .ensures .track)) _ _ _ _ _ _ _ _ (c .before .before .before .before .before .before .before .before .before .before .before .before .before .before .update .ensures) (c .left .ensures)
+
+pub update-spec : {M : Type 1} → statement M
+update-spec =
+    tie.close
+    (tie.spec
+    slice-aggregate-lay-out
+    slice-aggregate-lay-out-2
+    slice-aggregate-lay-out-3
+    lay-out-requires
+    slice-aggregate-update
+    slice-aggregate-update-2
+    slice-aggregate-update-3
+    update-requires
+    slice-aggregate-left
+    slice-aggregate-left-2
+    slice-aggregate-left-3
+    left-requires
+    same-length
+    same-length-2
+    same-length-3
+    same-length-4
+    returns)
