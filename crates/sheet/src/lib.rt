@@ -1,15 +1,15 @@
 // Reading a stored sheet (paper 01, "The sheet"): its description, and the timeline that it builds. sheet_format has the checks and the writer.
+use label::text_len;
 use refusal::ACCEPTED;
 use sheet_format::describe;
 use sheet_format::description::Description;
 use sheet_format::description::Item;
 use sheet_format::description::Placement;
-use sheet_format::text_len;
 use steps::MAX_ENTRIES;
 use timeline::timeline::At;
 use timeline::timeline::Timeline;
 ghost use mathlib.Core.Path.{_≡_};
-ghost use Prim.Native.Nat.{_≤_, min};
+ghost use Prim.Native.Nat.{_≤_};
 ghost use lib.ListN.{length, take};
 ghost use Rattle.float32.specs.Helpers.{fromBits};
 ghost use Rattle.steps.specs.Times.{maxEntries};
@@ -58,12 +58,12 @@ fn add_named(timeline: Timeline, item: Item, target: Item) -> Timeline
     let label = item.label;
     let len = text_len(label);
     let bytes = label.bytes;
-    let name = target.label;
-    let name_len = text_len(name);
-    let name_bytes = name.bytes;
+    let target_label = target.label;
+    let target_len = text_len(target_label);
+    let target_bytes = target_label.bytes;
     let added = timeline.add_at_label(
         &bytes[..len],
-        &name_bytes[..name_len],
+        &target_bytes[..target_len],
         float32::from_bits(item.duration),
     );
     added.timeline
@@ -102,18 +102,11 @@ fn add_item(timeline: Timeline, items: [Item; MAX_ENTRIES], n: usize, item: Item
     }
 }
 
-// n, or top where that is less.
-fn at_most(n: usize, top: usize) -> usize
-    ensures { λ r. ⌜ r ≡ min n top ⌝ }
-{
-    if n < top { n } else { top }
-}
-
 // The timeline that a description builds.
 pub fn build(described: Description) -> Timeline
     ensures { λ r. ⌜ r ≡ built described ⌝ }
 {
-    let n = at_most(described.count, MAX_ENTRIES);
+    let n = steps::least(described.count, MAX_ENTRIES);
     let items = described.items;
     let looping = described.looping;
     let scale = float32::from_bits(described.time_scale);

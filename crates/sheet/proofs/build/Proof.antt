@@ -23,8 +23,8 @@ abbrev μ-loop : tie.MeasureT-loop
 sized : (c : tie.After-items Inv-loop μ-loop) → length (c .before .before .args .described .items) ≡ maxEntries
 sized c = search (unmapped, needs)
 
-at-most-requires : tie.Need-at-most-requires Inv-loop μ-loop
-at-most-requires c κs = search needs
+least-requires : tie.Need-least-requires Inv-loop μ-loop
+least-requires c κs = search needs
 
 from-bits-requires : tie.Need-from-bits-requires Inv-loop μ-loop
 from-bits-requires c κs = search needs
@@ -41,7 +41,7 @@ set-time-scale-requires c κs = search needs
 loop-holds : tie.Need-loop-holds Inv-loop μ-loop
 loop-holds c =
     let h = sized (c .before .before .before .before) in
-    let m = c .before .before .before .before .before .at-most .ensures in
+    let m = c .before .before .before .before .before .least .ensures in
     (omega arith, omega arith, omega arith, refl)
 
 mul-item : tie.Need-mul-item Inv-loop μ-loop
@@ -62,16 +62,16 @@ loop-less c = omega arith
 loop-again : tie.Need-loop-again Inv-loop μ-loop
 loop-again c =
     let at = c .before .before .before in
-    (omega arith, at .loop .inv .1, at .loop .inv .2, sym (calls-more (c .before .before .before .before .before .before .before .before .before .at-most .result) (at .loop .i) _ (at .loop .timeline) _ (omega arith) (at .loop .inv .1) (c .add-item .ensures)) ∙ at .loop .inv .3)
+    (omega arith, at .loop .inv .1, at .loop .inv .2, sym (calls-more (c .before .before .before .before .before .before .before .before .before .least .result) (at .loop .i) _ (at .loop .timeline) _ (omega arith) (at .loop .inv .1) (c .add-item .ensures)) ∙ at .loop .inv .3)
 
 returns : tie.Need-returns Inv-loop μ-loop
 unfolding callsOf after
 returns c =
     let at = c .before in
     let d = c .before .before .before .before .before .before .before .before .args .described in
-    let n = c .before .before .before .before .before .before .before .at-most .result in
+    let n = c .before .before .before .before .before .before .before .least .result in
     let h = sized (c .before .before .before .before .before .before) in
-    let m = c .before .before .before .before .before .before .before .at-most .ensures in
+    let m = c .before .before .before .before .before .before .before .least .ensures in
     let live = take-cut (d .count) n (d .items) (omega arith) in
     sym (calls-end n (at .loop .i) (d .items) (at .loop .timeline) (omega arith)) ∙ at .loop .inv .3 ∙ rw (live, c .before .before .set-time-scale .ensures, c .before .before .before .looping .ensures, c .before .before .before .before .new .ensures, c .before .before .before .before .before .from-bits .ensures)
 
@@ -81,7 +81,7 @@ build-spec =
     (tie.spec
     Inv-loop
     μ-loop
-    at-most-requires
+    least-requires
     from-bits-requires
     new-requires
     looping-requires
