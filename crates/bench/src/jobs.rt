@@ -6,7 +6,7 @@ use tween::Loop;
 
 pub const ADD: u8 = 7;
 
-pub const WALK: u8 = 8;
+const WALK: u8 = 8;
 
 // Three units in the last place of the second from which the longest walk goes.
 const THREE_UNITS: f32 = 0.09375;
@@ -32,9 +32,13 @@ pub(crate) fn step(job: u8, base: f32, turns: u32) -> f32 {
     }
 }
 
-// The second from which the longest walk goes.
-pub(crate) fn late() -> f32 {
-    float32::from_bits(0x48ed_ebf1)
+// The second from which a job goes.
+pub(crate) fn first(job: u8) -> f32 {
+    if job == WALK {
+        float32::from_bits(0x48ed_ebf1)
+    } else {
+        0.0
+    }
 }
 
 // Entries that start one after another and overlap. For the longest walk they are so short that an update by three units in the

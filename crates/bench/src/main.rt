@@ -1,15 +1,24 @@
 // Makes many calls on a timeline, to be timed beside the Rust (`tools/bench`).
 //
-// Standard input: which job, how many entries, and how many calls as a u32, little-endian. It prints the elapsed time that they
-// come to, or the base where entries are added, as the eight hex digits of its bits. No input: nothing is done.
-mod calls;
+// Standard input: which job, how many entries, and how many calls as a u32, little-endian. The job's number has 10 more where all
+// rows are looked at after every call, and 20 more where it is played by value. It prints the elapsed time that the calls come to,
+// or the base where entries are added, and a sum of what was seen, each as the eight hex digits of its bits. No input: nothing is
+// done.
+mod by_value;
+mod in_place;
 mod jobs;
+mod rows;
 
-ghost use Prim.Native.Nat.{_<_};
 use libc::STDIN_FILENO;
 use libc::STDOUT_FILENO;
 
 const INPUT: usize = 6;
+
+// What the calls come to: a time, and a sum of the rows that were looked at.
+pub struct Came {
+    time: f32,
+    seen: u32,
+}
 
 fn main() {
     let mut input = [0u8; INPUT];
@@ -18,32 +27,34 @@ fn main() {
         return;
     }
     let turns = word(&input);
-    let entries = input[1];
-    let x = come_to(input[0], entries, turns);
-    let mut line = [b'\n'; 9];
-    digits::put_hex8(float32::to_bits(x), &mut line, 0);
+    let came = come_to(input[0], input[1], turns);
+    let mut line = *b"........ ........\n";
+    digits::put_hex8(float32::to_bits(came.time), &mut line, 0);
+    digits::put_hex8(came.seen, &mut line, 9);
     io::write_all(STDOUT_FILENO, &line);
 }
 
-fn wide(byte: u8) -> u32
-    ensures { λ r. ⌜ r < 256 ⌝ }
-{
-    byte as u32
-}
-
 fn word(input: &[u8; INPUT]) -> u32 {
-    wide(input[2]) + wide(input[3]) * 256 + wide(input[4]) * 65_536 + wide(input[5]) * 16_777_216
+    let low = digits::wide(input[2]) + digits::wide(input[3]) * 256;
+    let high = digits::wide(input[4]) + digits::wide(input[5]) * 256;
+    low + high * 65_536
 }
 
-fn come_to(job: u8, entries: u8, turns: u32) -> f32 {
+fn come_to(number: u8, entries: u8, turns: u32) -> Came {
+    let job = number % 10;
     if job == jobs::ADD {
-        return jobs::adds(entries, turns);
+        return Came {
+            time: jobs::adds(entries, turns),
+            seen: 0,
+        };
     }
-    let t = calls::start(job, entries);
-    let base = calls::base(t);
-    match job {
-        4 | 5 => calls::elapsed(calls::seeks_abs(t, 0.0, base, turns)),
-        6 => calls::seeks(t, turns),
-        _ => calls::updates(t, jobs::step(job, base, turns), turns),
+    let t = jobs::built(job, entries);
+    if number < 20 {
+        in_place::come_to(t, job, number > 9, turns)
+    } else {
+        Came {
+            time: by_value::come_to(t, job, turns),
+            seen: 0,
+        }
     }
 }

@@ -152,7 +152,15 @@ fn count_cycle(n: usize, starts: &[f32], durations: &[f32], w: Walk, start: f32)
 }
 
 // Writes their numbers from the place at on, and says where the next one goes.
-fn write_cycle(n: usize, starts: &[f32], durations: &[f32], w: Walk, start: f32, list: &mut [u8], at: usize) -> usize
+fn write_cycle(
+    n: usize,
+    starts: &[f32],
+    durations: &[f32],
+    w: Walk,
+    start: f32,
+    list: &mut [u8],
+    at: usize,
+) -> usize
     requires { ⌜ (n ≤ mostEntries) × (n ≤ length (now starts)) × (n ≤ length (now durations)) × (at + length (inCycle w start 0 (endsIn n (now starts) (now durations))) ≤ length (now list)) ⌝ }
     ensures { λ r. ⌜ (r ≡ at + length (inCycle w start 0 (endsIn n (now (starts .entry)) (now (durations .entry))))) × (now (list .exit) ≡ sets (now (list .entry)) at (inCycle w start 0 (endsIn n (now (starts .entry)) (now (durations .entry))))) ⌝ }
 {
@@ -169,7 +177,14 @@ fn write_cycle(n: usize, starts: &[f32], durations: &[f32], w: Walk, start: f32,
 }
 
 // The first pass: how many completions there are from the cycle first on, or that they are more than room.
-fn count_from(n: usize, starts: &[f32], durations: &[f32], w: Walk, first: u32, room: usize) -> Counted
+fn count_from(
+    n: usize,
+    starts: &[f32],
+    durations: &[f32],
+    w: Walk,
+    first: u32,
+    room: usize,
+) -> Counted
     requires { ⌜ (n ≤ length (now starts)) × (n ≤ length (now durations)) ⌝ }
     ensures { λ r. ⌜ r ≡ counted (leb (length (cyclesFrom w (endsIn n (now (starts .entry)) (now (durations .entry))) first)) room) (length (cyclesFrom w (endsIn n (now (starts .entry)) (now (durations .entry))) first)) ⌝ }
 {
@@ -206,7 +221,14 @@ fn write_from(n: usize, starts: &[f32], durations: &[f32], w: Walk, first: u32, 
 }
 
 // Both passes. Where there is nothing to write, the second is left out.
-fn list_from(n: usize, starts: &[f32], durations: &[f32], w: Walk, first: u32, list: &mut [u8]) -> Counted
+fn list_from(
+    n: usize,
+    starts: &[f32],
+    durations: &[f32],
+    w: Walk,
+    first: u32,
+    list: &mut [u8],
+) -> Counted
     requires { ⌜ (n ≤ mostEntries) × (n ≤ length (now starts)) × (n ≤ length (now durations)) ⌝ }
     ensures { λ r. ⌜ Listed (cyclesFrom w (endsIn n (now (starts .entry)) (now (durations .entry))) first) (now (list .entry)) (now (list .exit)) r ⌝ }
 {

@@ -206,12 +206,7 @@ pub fn duration(head: Playhead, starts: &[f32], durations: &[f32], marks: &[bool
 }
 
 // The run: `playback_duration`.
-pub fn playback_duration(
-    head: Playhead,
-    starts: &[f32],
-    durations: &[f32],
-    marks: &[bool],
-) -> f32
+pub fn playback_duration(head: Playhead, starts: &[f32], durations: &[f32], marks: &[bool]) -> f32
     ensures { λ r. ⌜ r ≡ trackRun (lentTrack head starts durations marks) ⌝ }
 {
     let base = duration(head, starts, durations, marks);
@@ -301,7 +296,19 @@ fn ticked(
     if outnumber(n, from, end, starts, durations, marks, replies, list.len()) {
         return refused(refusal::LIST_TOO_SHORT, c);
     }
-    let listed = tick(n, from, end, starts, durations, marks, replies, list, kinds, amounts, places);
+    let listed = tick(
+        n,
+        from,
+        end,
+        starts,
+        durations,
+        marks,
+        replies,
+        list,
+        kinds,
+        amounts,
+        places,
+    );
     reached(c, end, to.ended, listed)
 }
 
@@ -362,20 +369,63 @@ pub fn update(
     }
     let state = c.state;
     if !clock::is_playing(state) {
-        apply(n, Rule::Keep, starts, durations, marks, kinds, amounts, places);
+        apply(
+            n,
+            Rule::Keep,
+            starts,
+            durations,
+            marks,
+            kinds,
+            amounts,
+            places,
+        );
         return resting(c);
     }
     let base = completions::base(n, starts, durations);
     if base == 0.0 {
-        apply(n, Rule::Keep, starts, durations, marks, kinds, amounts, places);
+        apply(
+            n,
+            Rule::Keep,
+            starts,
+            durations,
+            marks,
+            kinds,
+            amounts,
+            places,
+        );
         return reached(c, c.elapsed, true, 0);
     }
     let next = c.next_elapsed(dt);
     let mode = head.looping;
     if tween::loop_mode::is_once(mode) {
-        return ticked(head, n, base, next, starts, durations, marks, replies, list, kinds, amounts, places);
+        return ticked(
+            head,
+            n,
+            base,
+            next,
+            starts,
+            durations,
+            marks,
+            replies,
+            list,
+            kinds,
+            amounts,
+            places,
+        );
     }
-    looped(head, n, base, next, starts, durations, marks, list, kinds, amounts, places)
+    looped(
+        head,
+        n,
+        base,
+        next,
+        starts,
+        durations,
+        marks,
+        list,
+        kinds,
+        amounts,
+        places,
+    )
 }
 
 // The first n marks of a column into another.
@@ -407,7 +457,16 @@ fn show(
 {
     let base = completions::base(n, starts, durations);
     if base == 0.0 {
-        apply(n, Rule::Keep, starts, durations, marks, kinds, amounts, places);
+        apply(
+            n,
+            Rule::Keep,
+            starts,
+            durations,
+            marks,
+            kinds,
+            amounts,
+            places,
+        );
         return;
     }
     let c = head.clock;
@@ -419,7 +478,19 @@ fn show(
         let from = float32::min(c.elapsed, base);
         let replies = [1u8; MOST_ENTRIES];
         let mut list = [0u8; MOST_ENTRIES];
-        tick(n, from, end, starts, durations, marks, &replies, &mut list, kinds, amounts, places);
+        tick(
+            n,
+            from,
+            end,
+            starts,
+            durations,
+            marks,
+            &replies,
+            &mut list,
+            kinds,
+            amounts,
+            places,
+        );
         return;
     }
     let rule = Rule::Sync(steps::local_time(mode, base, end));
@@ -448,9 +519,28 @@ pub fn preview(
     let c = head.clock;
     let state = c.state;
     if clock::is_playing(state) {
-        show(head, n, dt, starts, durations, &mut copy, kinds, amounts, places);
+        show(
+            head,
+            n,
+            dt,
+            starts,
+            durations,
+            &mut copy,
+            kinds,
+            amounts,
+            places,
+        );
         return refusal::ACCEPTED;
     }
-    apply(n, Rule::Keep, starts, durations, &mut copy, kinds, amounts, places);
+    apply(
+        n,
+        Rule::Keep,
+        starts,
+        durations,
+        &mut copy,
+        kinds,
+        amounts,
+        places,
+    );
     refusal::ACCEPTED
 }

@@ -205,13 +205,7 @@ impl Timeline {
     }
 
     // To a share of the run; of an infinite run, to a share of the base.
-    pub fn seek(
-        self,
-        to: Share,
-        kinds: &mut [u8],
-        amounts: &mut [f32],
-        places: &mut [f32],
-    ) -> Moved
+    pub fn seek(self, to: Share, kinds: &mut [u8], amounts: &mut [f32], places: &mut [f32]) -> Moved
         ensures { λ r. ⌜ Moves self (Seek (to .0)) r kinds amounts places ⌝ }
     {
         let track = self.track;

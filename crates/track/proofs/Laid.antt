@@ -37,10 +37,11 @@ module _ {A : Type 0} (f : Entry → A) (es : List Entry) where
   pub column-more : (i : ℕ) (old out : List A) (e : Entry) (none : A) → i < length es → e ≡ getD es i noEntry → Column f es i old out → Column f es (i + 1) old (set out i (f e))
   column-more i old out e none h p c =
       let here : f e ≡ getD (map f es) i none = ap f p ∙ sym (map-at f es i noEntry none h) in
-      record
-      { room = c .room
-      ; same = length-set out i (f e) ∙ c .same
-      ; held = front-more i (map f es) old out (f e) none (omega (arith, length-map es f)) (omega (arith, c .room)) here (c .held) }
+      record {
+        room = c .room;
+        same = length-set out i (f e) ∙ c .same;
+        held = front-more i (map f es) old out (f e) none (omega (arith, length-map es f)) (omega (arith, c .room)) here (c .held);
+      }
 
   pub column-all : (i : ℕ) (old out : List A) → i ≡ length es → Column f es i old out → out ≡ over (map f es) old
   column-all i old out e c = front-all i (map f es) old out (e ∙ sym (length-map es f)) (c .held)
@@ -70,7 +71,7 @@ pub laid-base : (k : Track) (room : ℕ) {h : Playhead} {s₀ s d₀ d : List Fl
 laid-base k room {h = h} {s = s} {d = d} {m = m} l w e =
     let es = take room (live k) in
     let all : h .count ≡ length (live (trackOf h s d m)) =
-        ap (λ (x : Playhead). x .count) (w .head) ∙ sym (ap (λ (x : Track). length (live x)) (w .track) ∙ ap length (take-length es)) in
+    ap (λ (x : Playhead). x .count) (w .head) ∙ sym (ap (λ (x : Track). length (live x)) (w .track) ∙ ap length (take-length es)) in
     based h s d m (h .count) all e ∙ ap trackBase (w .track) ∙ ap baseOf (take-length es ∙ take-all room (live k) l)
 
 -- ---- entries gathered from columns

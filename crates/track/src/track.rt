@@ -132,12 +132,7 @@ impl Track {
     }
 
     // The live entries into the three columns, as many as these have room for, and the playhead to play them with.
-    pub fn lay_out(
-        self,
-        starts: &mut [f32],
-        durations: &mut [f32],
-        marks: &mut [bool],
-    ) -> Playhead
+    pub fn lay_out(self, starts: &mut [f32], durations: &mut [f32], marks: &mut [bool]) -> Playhead
         ensures { λ r. ⌜ LaidOut self r starts durations marks ⌝ }
     {
         let room = steps::least(starts.len(), steps::least(durations.len(), marks.len()));
@@ -161,13 +156,7 @@ impl Track {
     }
 
     // The way back: what plays in the columns, over the first of the entries here.
-    pub fn gather(
-        self,
-        head: Playhead,
-        starts: &[f32],
-        durations: &[f32],
-        marks: &[bool],
-    ) -> Track
+    pub fn gather(self, head: Playhead, starts: &[f32], durations: &[f32], marks: &[bool]) -> Track
         ensures { λ r. ⌜ r ≡ laidOver self (trackOf head (now (starts .entry)) (now (durations .entry)) (now (marks .entry))) ⌝ }
     {
         let all = entries_in(head.count, starts.len(), durations.len(), marks.len());

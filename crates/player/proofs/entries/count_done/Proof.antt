@@ -14,12 +14,11 @@ use Rattle.track.proofs.Marks.{noEntry, noStep}
 use Rattle.track.proofs.Ticks.{length-ticks, turn-at, rest, rest-start, rest-end, rest-turn}
 use Rattle.track.specs.Columns.{firstOf}
 use Rattle.track.proofs.Columns.{length-first, first-at}
-
 use Rattle.player.proofs.entries.count_done.Statement.{statement}
 use Rattle.player.proofs.entries.count_done.Tie as tie
 
 abbrev Inv-loop : tie.InvT-loop
-Inv-loop n prev next starts durations marks replies k₀ i₀ k i = 
+Inv-loop n prev next starts durations marks replies k₀ i₀ k i =
     (i ≤ n)
     × (n ≤ length starts)
     × (n ≤ length durations)
@@ -68,7 +67,7 @@ loop-less : tie.Need-loop-less Inv-loop μ-loop
 loop-less c = omega arith
 
 loop-again : tie.Need-loop-again Inv-loop μ-loop
-loop-again c = 
+loop-again c =
     let g = c .before .before .before .before .before .before .before .before .before .before .before .before .before .args in
     let es = firstOf (g .n) (g .starts .now) (g .durations .now) (g .marks .now) in
     let rs = g .replies .now in
@@ -90,7 +89,7 @@ loop-again c =
     (c .if1 .came)
 
 returns : tie.Need-returns Inv-loop μ-loop
-returns c = 
+returns c =
     let at = c .before in
     let g = c .before .before .before .before .before .before .args in
     let es = firstOf (g .n) (g .starts .now) (g .durations .now) (g .marks .now) in

@@ -14,7 +14,7 @@ use Rattle.player.proofs.entries.outnumber.Statement.{statement}
 use Rattle.player.proofs.entries.outnumber.Tie as tie
 
 returns : tie.Need-returns
-returns c = 
+returns c =
     let g = c .before .before .before .before .before .args in
     let es = firstOf (g .n) (g .starts .now) (g .durations .now) (g .marks .now) in
     let long : length es ≡ g .n = length-first (g .n) (g .starts .now) (g .durations .now) (g .marks .now) (omega arith) (omega arith) (omega arith) in
@@ -27,5 +27,6 @@ count-done-requires c κs = search needs
 
 returns-2 : tie.Need-returns-2
 returns-2 c = ap (ltb (c .before .before .before .before .before .before .args .room)) (c .count-done .ensures)
+
 pub outnumber-spec : {M : Type 1} → statement M
 outnumber-spec = tie.close (tie.spec returns count-done-requires returns-2)

@@ -48,16 +48,17 @@ loop-holds c =
     let long : length (g .self .entries) ≡ maxEntries = search (unmapped, needs) in
     let all = counted (g .head) ss ds ms (c .before .before .entries-in .ensures) in
     let room = roomy (g .head) ss ds ms _ all in
-    let n = c .before .least .ensures in
-    ( omega arith
-    , omega (arith, n, all, length-take maxEntries (live (trackOf (g .head) ss ds ms)))
-    , omega (arith, n)
-    , omega (arith, n, room .0)
-    , omega (arith, n, room .1)
-    , omega (arith, n, room .2)
-    , long
-    , long
-    , refl)
+    let n = c .before .least .ensures in (
+      omega arith,
+      omega (arith, n, all, length-take maxEntries (live (trackOf (g .head) ss ds ms))),
+      omega (arith, n),
+      omega (arith, n, room .0),
+      omega (arith, n, room .1),
+      omega (arith, n, room .2),
+      long,
+      long,
+      refl,
+    )
 
 mul-t16 : tie.Need-mul-t16 Inv-loop μ-loop
 mul-t16 c = omega arith
@@ -98,16 +99,17 @@ loop-again c =
     let v = l .inv in
     let all = counted (g .head) ss ds ms (c .before .before .before .before .before .before .before .entries-in .ensures) in
     let h : i < length es = omega arith in
-    let here = gathers-at (g .head) ss ds ms _ all i h in
-    ( omega arith
-    , v .1
-    , v .2
-    , v .3
-    , v .4
-    , v .5
-    , v .6
-    , length-set (l .entries) i _ ∙ v .7
-    , front-more i es (g .self .entries) (l .entries) _ noEntry h (omega arith) here (v .8))
+    let here = gathers-at (g .head) ss ds ms _ all i h in (
+      omega arith,
+      v .1,
+      v .2,
+      v .3,
+      v .4,
+      v .5,
+      v .6,
+      length-set (l .entries) i _ ∙ v .7,
+      front-more i es (g .self .entries) (l .entries) _ noEntry h (omega arith) here (v .8),
+    )
 
 returns : tie.Need-returns Inv-loop μ-loop
 returns c =

@@ -62,14 +62,15 @@ loop-holds c =
     let n = c .before .least3 .ensures in
     let lives = c .before .before .entry-count .ensures in
     let room = c .before .before .before .least2 .ensures in
-    let room2 = c .before .before .before .before .least .ensures in
-    ( omega arith
-    , omega (arith, n, lives, room, room2, es-long)
-    , omega (arith, n, lives, live-long, long)
-    , long
-    , column-none (λ (e : Entry). e .start) es ss (omega (arith, es-long))
-    , column-none (λ (e : Entry). e .duration) es ds (omega (arith, es-long))
-    , column-none (λ (e : Entry). e .done) es ms (omega (arith, es-long)))
+    let room2 = c .before .before .before .before .least .ensures in (
+      omega arith,
+      omega (arith, n, lives, room, room2, es-long),
+      omega (arith, n, lives, live-long, long),
+      long,
+      column-none (λ (e : Entry). e .start) es ss (omega (arith, es-long)),
+      column-none (λ (e : Entry). e .duration) es ds (omega (arith, es-long)),
+      column-none (λ (e : Entry). e .done) es ms (omega (arith, es-long)),
+    )
 
 mul-e : tie.Need-mul-e Inv-loop μ-loop
 mul-e c = omega arith
@@ -109,14 +110,15 @@ loop-again c =
     let room = min (length (g .starts .now)) (min (length (g .durations .now)) (length (g .marks .now))) in
     let h : i < length es = omega arith in
     let h′ : i < length (live k) = omega (arith, length-take room (live k)) in
-    let here = sym (part-at room (live k) i noEntry h ∙ part-at (k .count) (k .entries) i noEntry h′) in
-    ( omega arith
-    , v .1
-    , v .2
-    , v .3
-    , column-more (λ (e : Entry). e .start) es i _ _ _ nan h here (v .4)
-    , column-more (λ (e : Entry). e .duration) es i _ _ _ nan h here (v .5)
-    , column-more (λ (e : Entry). e .done) es i _ _ _ false h here (v .6))
+    let here = sym (part-at room (live k) i noEntry h ∙ part-at (k .count) (k .entries) i noEntry h′) in (
+      omega arith,
+      v .1,
+      v .2,
+      v .3,
+      column-more (λ (e : Entry). e .start) es i _ _ _ nan h here (v .4),
+      column-more (λ (e : Entry). e .duration) es i _ _ _ nan h here (v .5),
+      column-more (λ (e : Entry). e .done) es i _ _ _ false h here (v .6),
+    )
 
 same-length : tie.Need-same-length Inv-loop μ-loop
 same-length c = omega arith
@@ -139,12 +141,13 @@ returns c =
     let starts = column-all (λ (e : Entry). e .start) es (l .i) _ _ end (v .4) in
     let durations = column-all (λ (e : Entry). e .duration) es (l .i) _ _ end (v .5) in
     let marks = column-all (λ (e : Entry). e .done) es (l .i) _ _ end (v .6) in
-    record
-    { head = head
-    ; starts = starts
-    ; durations = durations
-    ; marks = marks
-    ; track = laid k es _ _ _ _ _ _ _ (omega arith) head starts durations marks }
+    record {
+      head = head;
+      starts = starts;
+      durations = durations;
+      marks = marks;
+      track = laid k es _ _ _ _ _ _ _ (omega arith) head starts durations marks;
+    }
 
 pub lay-out-spec : {M : Type 1} → statement M
 lay-out-spec =

@@ -1,17 +1,19 @@
 -- `updates` ends, and is safe.
 use mathlib.Core.Path.{_≡_}
-use Prim.Native.Nat.{_≤_, _-_}
+use Prim.Native.Nat.{_-_}
 use lib.ListN.{length}
+use Rattle.steps.specs.Times.{maxEntries}
 use borrow.Author.Needs.{needs}
-use Rattle.bench.proofs.calls.updates.Statement.{statement}
-use Rattle.bench.proofs.calls.updates.Tie as tie
+use Rattle.bench.proofs.by_value.updates.Statement.{statement}
+use Rattle.bench.proofs.by_value.updates.Tie as tie
 
 abbrev Inv-loop : tie.InvT-loop
 Inv-loop dt turns t₀ replies list₀ kinds₀ amounts₀ places₀ turn₀ t list kinds amounts places turn =
-    (turn ≤ turns) × (length list ≡ 256) × (length kinds ≡ 64) × (length amounts ≡ 64) × (length places ≡ 64)
+    (length list ≡ 256) × (length kinds ≡ maxEntries) × (length amounts ≡ maxEntries) × (length places ≡ maxEntries)
 
 abbrev μ-loop : tie.MeasureT-loop
-μ-loop dt turns t₀ replies list₀ kinds₀ amounts₀ places₀ turn₀ t list kinds amounts places turn = turns - turn
+μ-loop dt turns t₀ replies list₀ kinds₀ amounts₀ places₀ turn₀ t list kinds amounts places turn =
+    turns - turn
 
 loop-holds : tie.Need-loop-holds Inv-loop μ-loop
 loop-holds c = search needs
@@ -46,11 +48,14 @@ loop-less c = search needs
 loop-again : tie.Need-loop-again Inv-loop μ-loop
 loop-again c = search needs
 
-array-read-if2 : tie.Need-array-read-if2 Inv-loop μ-loop
-array-read-if2 c = search needs
+array-read-is-listed : tie.Need-array-read-is-listed Inv-loop μ-loop
+array-read-is-listed c = search needs
 
-returns : tie.Need-returns Inv-loop μ-loop
-returns c = search needs
+entry-count-requires : tie.Need-entry-count-requires Inv-loop μ-loop
+entry-count-requires c κs = search needs
+
+is-listed-requires : tie.Need-is-listed-requires Inv-loop μ-loop
+is-listed-requires c κs = search needs
 
 array-read-is-row : tie.Need-array-read-is-row Inv-loop μ-loop
 array-read-is-row c = search needs
@@ -66,6 +71,9 @@ is-row-requires c κs = search needs
 
 elapsed-requires : tie.Need-elapsed-requires Inv-loop μ-loop
 elapsed-requires c κs = search needs
+
+returns : tie.Need-returns Inv-loop μ-loop
+returns c = search needs
 
 returns-2 : tie.Need-returns-2 Inv-loop μ-loop
 returns-2 c = search needs
@@ -90,12 +98,14 @@ updates-spec =
     add-turn
     loop-less
     loop-again
-    array-read-if2
-    returns
+    array-read-is-listed
+    entry-count-requires
+    is-listed-requires
     array-read-is-row
     array-read-is-row-2
     array-read-is-row-3
     is-row-requires
     elapsed-requires
+    returns
     returns-2
     returns-3)
