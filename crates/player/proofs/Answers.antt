@@ -1,7 +1,7 @@
 -- `update` in place: what it comes to, at the playhead and the columns that it holds.
 use Prim.Native.Nat.{ℕ, min}
 use mathlib.Core.Path.{_≡_, refl, sym, ap, subst, _∙_}
-use mathlib.Core.Bool.{Bool, true, false, true≢false, false≢true}
+use mathlib.Core.Bool.{Bool, true, false, false≢true}
 use mathlib.Core.List.{List, map}
 use lib.Dec.{ltb}
 use lib.ListN.{length}

@@ -18,7 +18,7 @@ use Rattle.track.specs.declared.track.Track.{Track}
 use Rattle.track.specs.declared.track.Playhead.{Playhead}
 use Rattle.track.specs.Tracks.{live, rowsOf, doneOf, moved, Sent}
 use Rattle.track.specs.Columns.{entryOf, firstOf, trackOf, withClockAt}
-use Rattle.track.specs.Updates.{ticks, newlyDone}
+use Rattle.track.specs.Updates.{ticks}
 use Rattle.track.proofs.Marks.{noEntry, noStep}
 use Rattle.track.proofs.Columns.{first-at, own, put}
 use Rattle.track.proofs.Ticks.{length-ticks}

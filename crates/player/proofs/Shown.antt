@@ -6,9 +6,7 @@ use mathlib.Core.List.{List, [], _∷_, map}
 use native.Mathlib.Omega.{arith}
 use lib.ListN.{length, take}
 use lib.Seq.{take-length}
-use lib.Ieee.{Float, eq}
-use Rattle.float32.specs.Helpers.{zeroF, minF}
-use Rattle.tween.specs.LoopMode.{isOnce}
+use lib.Ieee.{Float}
 use Rattle.steps.specs.declared.Entry.{Entry}
 use Rattle.steps.specs.declared.Row.{Row}
 use Rattle.steps.specs.declared.Rule.the-variants.{Keep}
@@ -19,7 +17,7 @@ use Rattle.track.specs.declared.track.Track.{Track}
 use Rattle.track.specs.declared.track.Playhead.{Playhead}
 use Rattle.track.specs.Tracks.{live, rowsOf, Sent}
 use Rattle.track.specs.Columns.{entryOf, firstOf, trackOf}
-use Rattle.track.specs.Updates.{ticks, Advance, playing}
+use Rattle.track.specs.Updates.{Advance, playing}
 use Rattle.track.specs.Calls.{roomOf, Preview, rested, advancedTo, trackStep}
 use Rattle.track.specs.Answers.{ShowsBy}
 use Rattle.track.proofs.Columns.{own, roomy}

@@ -1,6 +1,6 @@
 -- What a call comes to, by its tests: refused, sent by a rule, at rest, or advanced. The laws that the engine cites.
 use Prim.Native.Nat.{ℕ, _≤_}
-use mathlib.Core.Path.{_≡_, refl, sym, ap, subst, _∙_}
+use mathlib.Core.Path.{_≡_, refl, subst}
 use mathlib.Core.Bool.{Bool, true, false, not, cond, _||_, true≢false}
 use mathlib.Core.List.{List, [], map}
 use native.Mathlib.Omega.{arith}
@@ -9,10 +9,8 @@ use lib.Dec.{ltb}
 use lib.ListN.{length, take}
 use lib.Ieee.{Float, eq}
 use Rattle.float32.specs.Helpers.{zeroF, minF}
-use Rattle.refusal.specs.Refusal.{accepted, rowsTooShort, badReplies, listTooShort}
+use Rattle.refusal.specs.Refusal.{accepted, listTooShort}
 use Rattle.tween.specs.LoopMode.{isOnce}
-use Rattle.tween.specs.declared.loop_mode.Loop.{Loop}
-use Rattle.steps.specs.declared.Entry.{Entry}
 use Rattle.steps.specs.declared.Rule.{Rule}
 use Rattle.steps.specs.declared.Rule.the-variants.{Keep, Clear, Sync}
 use Rattle.steps.specs.Rows.{ruled}
@@ -26,8 +24,8 @@ use Rattle.clock.specs.declared.Reach.{Reach}
 use Rattle.clock.specs.Clocks.{isPlaying, isCompleted, cleared, played, playRule, seekTo, shareIn, sought, nextElapsed, reachOf, fires, advancedClock}
 use Rattle.track.specs.declared.track.Track.{Track}
 use Rattle.track.specs.Tracks.{live, trackBase, rowsOf, moved, Sent}
-use Rattle.track.specs.Updates.{aboveOne, repliesBad, ticks, newlyDone, Advance, advanced, endedAt, playing}
-use Rattle.track.specs.Calls.{Room, roomOf, Play, Reset, Seek, SeekAbs, Update, Preview, TrackOut, short, refusedIf, sent, soughtTo, rested, advancedTo, updated, fitted, updatedWith, previewed, trackStep}
+use Rattle.track.specs.Updates.{aboveOne, ticks, newlyDone, Advance, advanced, endedAt, playing}
+use Rattle.track.specs.Calls.{Room, roomOf, Play, Reset, Seek, SeekAbs, Update, Preview, TrackOut, sent, soughtTo, rested, advancedTo, updated, fitted, updatedWith, previewed, trackStep}
 use Rattle.track.specs.Answers.{Answer, MovesBy, UpdatesBy, ShowsBy}
 
 -- ---- tests

@@ -17,7 +17,7 @@ use Rattle.clock.specs.declared.Clock.{Clock}
 use Rattle.clock.specs.Clocks.{nextElapsed, reachOf}
 use Rattle.track.specs.Tracks.{live, rowsOf}
 use Rattle.track.specs.Columns.{firstOf, trackOf}
-use Rattle.track.specs.Updates.{ticks, newlyDone}
+use Rattle.track.specs.Updates.{ticks}
 use Rattle.track.proofs.Columns.{roomy, based, length-first}
 use Rattle.track.proofs.Ticks.{newly-most}
 use Rattle.track.proofs.Replies.{ticks-rows}

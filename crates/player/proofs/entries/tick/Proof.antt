@@ -8,7 +8,7 @@ use denote.Ref.{now}
 use Rattle.steps.specs.declared.Entry.{Entry}
 use Rattle.steps.specs.declared.Stepped.{Stepped}
 use Rattle.track.specs.Updates.{ticks}
-use Rattle.track.proofs.Marks.{noEntry, noStep}
+use Rattle.track.proofs.Marks.{noEntry}
 use Rattle.track.proofs.Ticks.{length-ticks, turn-at, Listing, none-listed, room-listed, one-listed, all-listed}
 use Rattle.completions.specs.Columns.{mostEntries}
 use Rattle.track.specs.Columns.{firstOf}
