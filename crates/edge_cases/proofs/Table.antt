@@ -6,18 +6,17 @@ use Rattle.tween.specs.StaggerPattern.{distanceDelay, gridDelay, xor, hash, ran
 use Rattle.tween.specs.Cases.{caseHolds}
 use Rattle.tween.specs.Cases as tween
 use Rattle.steps.specs.Times.{baseOf, timesRun, runOf, timesLocal, pingPong, localTime}
-use Rattle.steps.specs.Rows.{untouched, cleared, synced, tickRow, tickedOver, tickedIn, ticked, resetFirst}
-use Rattle.walk.specs.Completions.{cycleStart, completes, inCycle, breaksAt, stopsAt, cycles, completionsIn, completionsBetween}
+use Rattle.steps.specs.Rows.{untouched, resetStep, synced, ticked, resetFirst}
+use Rattle.completions.specs.Completions.{cycleStart, completes, inCycle, breaksAt, stopsAt, cycles, completionsIn, completionsBetween}
 use Rattle.label.specs.Label.{sameText, firstFrom, firstLike}
-use Rattle.clock.specs.Clocks as clocks
+use Rattle.clock.specs.Clocks.{withState, scaled, cleared, started, playState, played, playRule, paused, resumed, seekTo, shareIn, seekState, sought, nextElapsed, reachOf, advancedClock}
 use Rattle.track.specs.Tracks.{emptyTrack, progressIn}
-use Rattle.track.specs.Updates.{aboveOne, ticks, newlyDone, tickedTo, syncedTo, playing}
-use Rattle.clock.specs.Clocks.{playRule, shareIn, nextElapsed, advancedClock}
+use Rattle.track.specs.Updates.{aboveOne, ticks, newlyDone, advanced, playing}
 use Rattle.track.specs.Calls.{sent, soughtTo, advancedTo, rested, updated, updatedWith, trackStep}
 use Rattle.timeline.specs.Placements.{empty, namedStart, resolveStart}
 use Rattle.timeline.specs.Calls.{addedAt, step}
 use Rattle.edge_cases.specs.Edges.{answer, sameNumbers, gives, edgeHolds, allHold, panels, edges}
 
 pub holds : T (allHold edges)
-unfolding edges panels allHold edgeHolds gives sameNumbers answer step addedAt empty namedStart resolveStart trackStep updatedWith updated rested advancedTo soughtTo playRule sent nextElapsed aboveOne ticks newlyDone tickedTo syncedTo playing advancedClock emptyTrack progressIn shareIn clocks.withState clocks.scaled clocks.cleared clocks.started clocks.playState clocks.played clocks.paused clocks.resumed clocks.seekTo clocks.seekState clocks.sought sameText firstFrom firstLike cycleStart completes inCycle breaksAt stopsAt cycles completionsIn completionsBetween untouched cleared synced tickRow tickedOver tickedIn ticked resetFirst baseOf timesRun runOf timesLocal pingPong localTime tween.gives caseHolds tween.table distanceDelay gridDelay xor hash randomDelay edgesIn maxF minF clampF add sub mul div rem neg ofInt ofBits toBits toUnsigned isNan lt le eq
+unfolding edges panels allHold edgeHolds gives sameNumbers answer step addedAt empty namedStart resolveStart trackStep updatedWith updated rested advancedTo soughtTo playRule sent nextElapsed reachOf aboveOne ticks newlyDone advanced playing advancedClock emptyTrack progressIn shareIn withState scaled cleared started playState played paused resumed seekTo seekState sought sameText firstFrom firstLike cycleStart completes inCycle breaksAt stopsAt cycles completionsIn completionsBetween untouched resetStep synced ticked resetFirst baseOf timesRun runOf timesLocal pingPong localTime tween.gives caseHolds tween.table distanceDelay gridDelay xor hash randomDelay edgesIn maxF minF clampF add sub mul div rem neg ofInt ofBits toBits toUnsigned isNan lt le eq
 holds = tt

@@ -28,7 +28,7 @@ use Rattle.group.specs.declared.group.AnimationGroup.{AnimationGroup}
 use Rattle.group.specs.declared.sequence.Sequence.{Sequence}
 use Rattle.group.specs.declared.sequence.Sequenced.{Sequenced}
 use Rattle.group.specs.Items.{itemLabel, itemCalls, builtBy}
-use Rattle.group.specs.Sequence.{SequenceCall, Then, ThenFor, Gap, newSequence, advance, thenBy, sequenceStep, sequenceAfter}
+use Rattle.group.specs.Sequence.{SequenceCall, Then, ThenFor, Gap, newSequence, cursorAfter, thenBy, sequenceStep, sequenceAfter}
 use Rattle.group.specs.Stagger.{staggered}
 use Rattle.group.specs.Group.{parallelOf, sequenceOf, staggerOf, reverseCall}
 use Rattle.group.specs.Claim.{CoveredGroup, Controlled, Claim}
@@ -44,7 +44,7 @@ unfolding thenBy
 then-covered s call duration m =
     let o = step (s .inner) call in
     either-covered (eqb (o .refusal) accepted)
-    (record { refusal = accepted; sequence = record { inner = o .timeline; cursor = advance (s .cursor) duration } })
+    (record { refusal = accepted; sequence = record { inner = o .timeline; cursor = cursorAfter (s .cursor) duration } })
     (record { refusal = o .refusal; sequence = s })
     (coverage .calls (s .inner) call m) m
 

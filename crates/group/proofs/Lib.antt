@@ -1,5 +1,4 @@
 pub mod Items
 pub mod Building
 pub mod Sequencing
-pub mod Forwards
 pub mod Claim

@@ -16,7 +16,7 @@ use Rattle.timeline.specs.Calls.{Out, Add, step}
 use Rattle.timeline.proofs.Growing.{fold-last}
 use Rattle.group.specs.declared.sequence.Sequence.{Sequence}
 use Rattle.group.specs.Items.{itemLabel}
-use Rattle.group.specs.Sequence.{Then, newSequence, advance, thenBy, sequenceStep}
+use Rattle.group.specs.Sequence.{Then, newSequence, cursorAfter, thenBy, sequenceStep}
 use Rattle.group.specs.Group.{cursorAt, atCursor}
 use Rattle.group.proofs.Items.{item-added}
 use Rattle.group.proofs.Building.{Building, none-added, one-more}
@@ -32,7 +32,7 @@ module _ (s : Sequence) (i : ℕ) (d : Float) (e : s .inner .track .count ≡ i)
   added = step (s .inner) (Add (itemLabel i) (Absolute (s .cursor)) d)
 
   -- `then` of an item: the entry is added and the cursor advanced
-  then-item : sequenceStep s (Then (itemLabel i) d) .sequence ≡ record { inner = added .timeline; cursor = advance (s .cursor) d }
+  then-item : sequenceStep s (Then (itemLabel i) d) .sequence ≡ record { inner = added .timeline; cursor = cursorAfter (s .cursor) d }
   unfolding sequenceStep thenBy
   then-item = rw (item-added (s .inner) i (Absolute (s .cursor)) d e h)
 
@@ -40,9 +40,9 @@ module _ (s : Sequence) (i : ℕ) (d : Float) (e : s .inner .track .count ≡ i)
   then-counted = rw (item-added (s .inner) i (Absolute (s .cursor)) d e h) (ap (λ (n : ℕ). n + 1) e)
 
 module _ (ds : List Float) where
-  cursor-more : (i : ℕ) (d : Float) → i < length ds → cursorAt ds (i + 1) ≡ advance (cursorAt ds i) (getD ds i d)
+  cursor-more : (i : ℕ) (d : Float) → i < length ds → cursorAt ds (i + 1) ≡ cursorAfter (cursorAt ds i) (getD ds i d)
   unfolding cursorAt
-  cursor-more i d h = rw (add-one, take-suc ds i d h) (fold-last advance zeroF (take i ds) (getD ds i d))
+  cursor-more i d h = rw (add-one, take-suc ds i d h) (fold-last cursorAfter zeroF (take i ds) (getD ds i d))
 
   pub none-sequenced : (s : Sequence) → s ≡ newSequence → Sequencing ds s 0
   unfolding newSequence cursorAt empty emptyTrack
@@ -64,5 +64,5 @@ module _ (ds : List Float) where
       record {
         building = one-more (atCursor ds) ds (s .inner) (s′ .inner) i d (q .building) h (rw (q .cursor) at inner);
         counted = ap (λ (y : Sequence). y .inner .track .count) next ∙ then-counted s i x n k;
-        cursor = ap (λ (y : Sequence). y .cursor) next ∙ ap (λ (y : Float). advance y x) (q .cursor) ∙ sym (cursor-more i d h);
+        cursor = ap (λ (y : Sequence). y .cursor) next ∙ ap (λ (y : Float). cursorAfter y x) (q .cursor) ∙ sym (cursor-more i d h);
       }

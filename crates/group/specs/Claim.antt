@@ -10,14 +10,14 @@ use Rattle.steps.specs.Times.{maxEntries}
 use Rattle.track.specs.Calls.{Room, SetTimeScale, Play, Pause, Resume, Reset, Seek, Update}
 use Rattle.timeline.specs.declared.timeline.At.{At}
 use Rattle.timeline.specs.Placements.{empty}
-use Rattle.timeline.specs.Calls.{On, step, movedBy, updatedBy}
+use Rattle.timeline.specs.Calls.{On, step}
 use Rattle.history.specs.Claim.{AllBuild}
 use Rattle.history.specs.Covered.{Covered}
 use Rattle.group.specs.declared.group.AnimationGroup.{AnimationGroup}
 use Rattle.group.specs.Items.{itemCalls}
 use Rattle.group.specs.Sequence.{SequenceCall, newSequence, sequenceAfter}
 use Rattle.group.specs.Stagger.{staggered}
-use Rattle.group.specs.Group.{groupOf, groupMoved, groupUpdated, parallelOf, sequenceOf, staggerOf, reverseCall}
+use Rattle.group.specs.Group.{groupOf, parallelOf, sequenceOf, staggerOf, reverseCall}
 
 -- a list of calls makes the group's timeline
 abbrev pub CoveredGroup : AnimationGroup → Type 0
@@ -25,15 +25,15 @@ CoveredGroup g = Covered (g .inner)
 
 -- what each control leaves of the group g is covered; "a group's `reverse` counts as its calls on the panel"
 pub record Controlled (g : AnimationGroup) : Type 0 where
-  pub play : (room : Room) → CoveredGroup (groupMoved (movedBy (step (g .inner) (On (Play room)))) .group)
+  pub play : (room : Room) → CoveredGroup (groupOf (step (g .inner) (On (Play room)) .timeline))
   pub pause : CoveredGroup (groupOf (step (g .inner) (On Pause) .timeline))
   pub resume : CoveredGroup (groupOf (step (g .inner) (On Resume) .timeline))
-  pub reset : (room : Room) → CoveredGroup (groupMoved (movedBy (step (g .inner) (On (Reset room)))) .group)
-  pub seek : (share : Float) (room : Room) → CoveredGroup (groupMoved (movedBy (step (g .inner) (On (Seek share room)))) .group)
-  pub reverse : (room : Room) → CoveredGroup (groupMoved (movedBy (step (g .inner) (reverseCall (g .inner) room))) .group)
+  pub reset : (room : Room) → CoveredGroup (groupOf (step (g .inner) (On (Reset room)) .timeline))
+  pub seek : (share : Float) (room : Room) → CoveredGroup (groupOf (step (g .inner) (On (Seek share room)) .timeline))
+  pub reverse : (room : Room) → CoveredGroup (groupOf (step (g .inner) (reverseCall (g .inner) room) .timeline))
   pub scale : (x : Float) → CoveredGroup (groupOf (step (g .inner) (On (SetTimeScale x)) .timeline))
   pub update : (dt : Float) (replies : List ℕ) (list : ℕ) (room : Room)
-      → CoveredGroup (groupUpdated (updatedBy (step (g .inner) (On (Update dt replies list room)))) .group)
+      → CoveredGroup (groupOf (step (g .inner) (On (Update dt replies list room)) .timeline))
 
 -- all of it, which `claimed` carries
 pub record Claim : Type 0 where

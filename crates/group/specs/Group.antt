@@ -17,13 +17,13 @@ use Rattle.timeline.specs.declared.timeline.Moved.{Moved}
 use Rattle.timeline.specs.declared.timeline.Updated.{Updated}
 use Rattle.timeline.specs.Calls.{Call, On}
 use Rattle.timeline.specs.Introspections.{playbackState, introspection}
-use Rattle.group.specs.declared.stagger.Built.{Built}
+use Rattle.group.specs.declared.item.Built.{Built}
 use Rattle.group.specs.declared.group.AnimationGroup.{AnimationGroup}
 use Rattle.group.specs.declared.group.GroupBuilt.{GroupBuilt}
 use Rattle.group.specs.declared.group.GroupMoved.{GroupMoved}
 use Rattle.group.specs.declared.group.GroupUpdated.{GroupUpdated}
 use Rattle.group.specs.Items.{itemCalls, tooMany, firstRefusal, builtBy}
-use Rattle.group.specs.Sequence.{advance}
+use Rattle.group.specs.Sequence.{cursorAfter}
 
 -- `from_timeline`
 abbrev pub groupOf : Timeline → AnimationGroup
@@ -45,7 +45,7 @@ parallelOf ds = builtBy (tooMany (length ds)) (itemCalls atStart 0 ds)
 
 -- the cursor of a sequence after the first i durations
 unfoldable pub cursorAt : List Float → ℕ → Float
-cursorAt ds i = foldl advance zeroF (take i ds)
+cursorAt ds i = foldl cursorAfter zeroF (take i ds)
 
 -- `sequence`: item i at the cursor
 abbrev pub atCursor : List Float → ℕ → At
@@ -65,14 +65,14 @@ staggerOf ds p = builtBy (firstRefusal (delayOf p 0 .refusal) (tooMany (length d
 
 -- ---- controls
 
--- the answer of a call that moved the timeline
-abbrev pub groupMoved : Moved → GroupMoved
-groupMoved m = record { refusal = m .refusal; group = groupOf (m .timeline) }
+-- the answer of a call that moves the group, as its timeline gives it
+abbrev pub innerMoved : GroupMoved → Moved
+innerMoved r = record { refusal = r .refusal; timeline = r .group .inner }
 
--- the answer of an update of the timeline
-abbrev pub groupUpdated : Updated → GroupUpdated
-groupUpdated u =
-    record { refusal = u .refusal; running = u .running; completed = u .completed; listed = u .listed; group = groupOf (u .timeline) }
+-- the answer of an update of the group, as its timeline gives it
+abbrev pub innerUpdated : GroupUpdated → Updated
+innerUpdated r =
+    record { refusal = r .refusal; running = r .running; completed = r .completed; listed = r .listed; timeline = r .group .inner }
 
 -- `reverse`: `self.inner.seek(1.0 - progress)`
 abbrev pub reverseCall : Timeline → Room → Call

@@ -11,7 +11,7 @@ use Rattle.timeline.specs.declared.timeline.At.{At}
 use Rattle.timeline.specs.declared.timeline.Timeline.{Timeline}
 use Rattle.timeline.specs.Placements.{empty}
 use Rattle.timeline.specs.Calls.{Call, Add, after}
-use Rattle.group.specs.declared.stagger.Built.{Built}
+use Rattle.group.specs.declared.item.Built.{Built}
 
 -- `item_`
 abbrev pub itemPrefix : List ℕ

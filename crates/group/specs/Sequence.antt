@@ -24,14 +24,14 @@ unfoldable pub newSequence : Sequence
 newSequence = record { inner = empty; cursor = zeroF }
 
 -- `self.cursor += seconds.max(0.0)`
-unfoldable pub advance : Float → Float → Float
-advance cursor seconds = add binary32 cursor (maxF seconds zeroF)
+unfoldable pub cursorAfter : Float → Float → Float
+cursorAfter cursor seconds = add binary32 cursor (maxF seconds zeroF)
 
 -- the entry added, and the cursor at its end; "A refused call writes nothing; panel and builder are unchanged"
 unfoldable pub thenBy : Sequence → Added → Float → Sequenced
 thenBy s a duration =
     cond (eqb (a .refusal) accepted)
-    (record { refusal = accepted; sequence = record { inner = a .timeline; cursor = advance (s .cursor) duration } })
+    (record { refusal = accepted; sequence = record { inner = a .timeline; cursor = cursorAfter (s .cursor) duration } })
     (record { refusal = a .refusal; sequence = s })
 
 -- what each call leaves and answers: an entry is added at `At::Absolute(self.cursor)`
@@ -40,7 +40,7 @@ sequenceStep s (Then name duration) = thenBy s (addedBy (step (s .inner) (Add na
 sequenceStep s (ThenFor name duration) =
     thenBy s (addedBy (step (s .inner) (AddBoxed name (Absolute (s .cursor)) (maxF duration zeroF)))) duration
 sequenceStep s (Gap seconds) =
-    record { refusal = accepted; sequence = record { inner = s .inner; cursor = advance (s .cursor) seconds } }
+    record { refusal = accepted; sequence = record { inner = s .inner; cursor = cursorAfter (s .cursor) seconds } }
 
 -- the sequence that a list of calls leaves, each on what the one before left
 unfoldable pub sequenceAfter : Sequence → List SequenceCall → Sequence

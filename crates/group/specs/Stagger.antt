@@ -6,7 +6,7 @@ use lib.Ieee.{Float, binary32, mul}
 use Rattle.float32.specs.Helpers.{zeroF, maxF, fromU32}
 use Rattle.timeline.specs.declared.timeline.At.{At}
 use Rattle.timeline.specs.declared.timeline.At.the-variants.{Absolute}
-use Rattle.group.specs.declared.stagger.Built.{Built}
+use Rattle.group.specs.declared.item.Built.{Built}
 use Rattle.group.specs.Items.{itemCalls, tooMany, builtBy}
 
 -- `At::Absolute(index as f32 * delay)`, with `delay.max(0.0)`

@@ -10,14 +10,13 @@ use timeline::timeline::Updated;
 use track::track::Share;
 use tween::StaggerPattern;
 ghost use mathlib.Core.Path.{_≡_};
-ghost use lib.ListN.{length};
 ghost use Rattle.clock.specs.Clocks.{isCompleted};
-ghost use Rattle.track.specs.Tracks.{progressOf, Sent};
-ghost use Rattle.steps.specs.Slices.{over};
-ghost use Rattle.track.specs.Calls.{SetTimeScale, Play, Pause, Resume, Reset, Seek, Update, roomOf};
-ghost use Rattle.timeline.specs.Calls.{On, step, movedBy, updatedBy};
+ghost use Rattle.track.specs.Tracks.{progressOf};
+ghost use Rattle.track.specs.Calls.{SetTimeScale, Play, Pause, Resume, Reset, Seek};
+ghost use Rattle.timeline.specs.Calls.{On, step};
+ghost use Rattle.timeline.specs.Answers.{Moves, MovesOn, Updates};
 ghost use Rattle.group.specs.Items.{firstRefusal, refusedWith, builtFrom};
-ghost use Rattle.group.specs.Group.{groupOf, groupBuilt, groupMoved, groupUpdated, parallelOf, sequenceOf, staggerOf, reverseCall, groupDuration, groupIntrospected};
+ghost use Rattle.group.specs.Group.{groupOf, groupBuilt, innerMoved, innerUpdated, parallelOf, sequenceOf, staggerOf, reverseCall, groupDuration, groupIntrospected};
 
 // A group of animations that is controlled as one.
 pub struct AnimationGroup {
@@ -116,8 +115,7 @@ impl AnimationGroup {
 
     // Begins to play.
     pub fn play(self, kinds: &mut [u8], amounts: &mut [f32], places: &mut [f32]) -> GroupMoved
-        ensures { λ r. ⌜ r ≡ groupMoved (movedBy (step (self .inner) (On (Play (roomOf (now (kinds .entry)) (now (amounts .entry)) (now (places .entry))))))) ⌝ }
-        ensures { λ _. ⌜ Sent (step (self .inner) (On (Play (roomOf (now (kinds .entry)) (now (amounts .entry)) (now (places .entry))))) .rows) (now (kinds .entry)) (now (kinds .exit)) (now (amounts .entry)) (now (amounts .exit)) (now (places .entry)) (now (places .exit)) ⌝ }
+        ensures { λ r. ⌜ Moves (self .inner) Play (innerMoved r) kinds amounts places ⌝ }
     {
         let inner = self.inner;
         let m = inner.play(kinds, amounts, places);
@@ -144,8 +142,7 @@ impl AnimationGroup {
 
     // Back to the beginning.
     pub fn reset(self, kinds: &mut [u8], amounts: &mut [f32], places: &mut [f32]) -> GroupMoved
-        ensures { λ r. ⌜ r ≡ groupMoved (movedBy (step (self .inner) (On (Reset (roomOf (now (kinds .entry)) (now (amounts .entry)) (now (places .entry))))))) ⌝ }
-        ensures { λ _. ⌜ Sent (step (self .inner) (On (Reset (roomOf (now (kinds .entry)) (now (amounts .entry)) (now (places .entry))))) .rows) (now (kinds .entry)) (now (kinds .exit)) (now (amounts .entry)) (now (amounts .exit)) (now (places .entry)) (now (places .exit)) ⌝ }
+        ensures { λ r. ⌜ Moves (self .inner) Reset (innerMoved r) kinds amounts places ⌝ }
     {
         let inner = self.inner;
         let m = inner.reset(kinds, amounts, places);
@@ -160,8 +157,7 @@ impl AnimationGroup {
         amounts: &mut [f32],
         places: &mut [f32],
     ) -> GroupMoved
-        ensures { λ r. ⌜ r ≡ groupMoved (movedBy (step (self .inner) (On (Seek (to .0) (roomOf (now (kinds .entry)) (now (amounts .entry)) (now (places .entry))))))) ⌝ }
-        ensures { λ _. ⌜ Sent (step (self .inner) (On (Seek (to .0) (roomOf (now (kinds .entry)) (now (amounts .entry)) (now (places .entry))))) .rows) (now (kinds .entry)) (now (kinds .exit)) (now (amounts .entry)) (now (amounts .exit)) (now (places .entry)) (now (places .exit)) ⌝ }
+        ensures { λ r. ⌜ Moves (self .inner) (Seek (to .0)) (innerMoved r) kinds amounts places ⌝ }
     {
         let inner = self.inner;
         let m = inner.seek(to, kinds, amounts, places);
@@ -170,8 +166,7 @@ impl AnimationGroup {
 
     // To the share that is left.
     pub fn reverse(self, kinds: &mut [u8], amounts: &mut [f32], places: &mut [f32]) -> GroupMoved
-        ensures { λ r. ⌜ r ≡ groupMoved (movedBy (step (self .inner) (reverseCall (self .inner) (roomOf (now (kinds .entry)) (now (amounts .entry)) (now (places .entry)))))) ⌝ }
-        ensures { λ _. ⌜ Sent (step (self .inner) (reverseCall (self .inner) (roomOf (now (kinds .entry)) (now (amounts .entry)) (now (places .entry)))) .rows) (now (kinds .entry)) (now (kinds .exit)) (now (amounts .entry)) (now (amounts .exit)) (now (places .entry)) (now (places .exit)) ⌝ }
+        ensures { λ r. ⌜ MovesOn (self .inner) (reverseCall (self .inner)) (innerMoved r) kinds amounts places ⌝ }
     {
         let progress = self.progress();
         let left = 1.0 - progress;
@@ -221,9 +216,7 @@ impl AnimationGroup {
         amounts: &mut [f32],
         places: &mut [f32],
     ) -> GroupUpdated
-        ensures { λ r. ⌜ r ≡ groupUpdated (updatedBy (step (self .inner) (On (Update dt (now (replies .entry)) (length (now (list .entry))) (roomOf (now (kinds .entry)) (now (amounts .entry)) (now (places .entry))))))) ⌝ }
-        ensures { λ _. ⌜ Sent (step (self .inner) (On (Update dt (now (replies .entry)) (length (now (list .entry))) (roomOf (now (kinds .entry)) (now (amounts .entry)) (now (places .entry))))) .rows) (now (kinds .entry)) (now (kinds .exit)) (now (amounts .entry)) (now (amounts .exit)) (now (places .entry)) (now (places .exit)) ⌝ }
-        ensures { λ _. ⌜ now (list .exit) ≡ over (step (self .inner) (On (Update dt (now (replies .entry)) (length (now (list .entry))) (roomOf (now (kinds .entry)) (now (amounts .entry)) (now (places .entry))))) .listed) (now (list .entry)) ⌝ }
+        ensures { λ r. ⌜ Updates (self .inner) dt replies (innerUpdated r) list kinds amounts places ⌝ }
     {
         let inner = self.inner;
         let u = inner.update(dt, replies, list, kinds, amounts, places);
@@ -266,7 +259,7 @@ fn built_from(timeline: Timeline) -> GroupBuilt
 
 // The answer of a call that moved the timeline.
 fn group_moved(m: Moved) -> GroupMoved
-    ensures { λ r. ⌜ r ≡ groupMoved m ⌝ }
+    ensures { λ r. ⌜ innerMoved r ≡ m ⌝ }
 {
     let inner = m.timeline;
     let group = AnimationGroup { inner };
@@ -278,7 +271,7 @@ fn group_moved(m: Moved) -> GroupMoved
 
 // The answer of an update of the timeline.
 fn group_updated(u: Updated) -> GroupUpdated
-    ensures { λ r. ⌜ r ≡ groupUpdated u ⌝ }
+    ensures { λ r. ⌜ innerUpdated r ≡ u ⌝ }
 {
     let inner = u.timeline;
     let group = AnimationGroup { inner };

@@ -1,4 +1,4 @@
-// The items of a builder. Their labels are `item_` and the decimal index.
+// What the builders share: their answer, and their items, whose labels are `item_` and the decimal index.
 use crate::sequence::Sequence;
 use steps::MAX_ENTRIES;
 use timeline::timeline::At;
@@ -9,6 +9,12 @@ ghost use lib.ListN.{length, take};
 ghost use Rattle.timeline.specs.Calls.{Add, step};
 ghost use Rattle.group.specs.Items.{itemLabel, tooMany};
 ghost use Rattle.group.specs.Sequence.{Then, sequenceStep};
+
+// The answer of a builder; where it is refused, the timeline is empty.
+pub struct Built {
+    pub refusal: u8,
+    pub timeline: Timeline,
+}
 
 // How many bytes `item_` has, and how many a label with the longest index.
 const PREFIX: usize = 5;

@@ -1,6 +1,6 @@
 // Builders of timelines, and groups (sequence.rs, stagger.rs, group.rs; paper 01, part 5).
 pub mod group;
-mod item;
+pub mod item;
 pub mod sequence;
 pub mod stagger;
 

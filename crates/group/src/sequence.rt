@@ -3,7 +3,7 @@ use timeline::timeline::Added;
 use timeline::timeline::At;
 use timeline::timeline::Timeline;
 ghost use mathlib.Core.Path.{_≡_};
-ghost use Rattle.group.specs.Sequence.{newSequence, advance, thenBy, Then, ThenFor, Gap, sequenceStep};
+ghost use Rattle.group.specs.Sequence.{newSequence, cursorAfter, thenBy, Then, ThenFor, Gap, sequenceStep};
 
 // A timeline, and the second at which its next entry starts.
 pub struct Sequence {
@@ -52,7 +52,7 @@ impl Sequence {
         ensures { λ r. ⌜ r ≡ sequenceStep self (Gap seconds) .sequence ⌝ }
     {
         let inner = self.inner;
-        let cursor = self.advanced(seconds);
+        let cursor = self.cursor_after(seconds);
         Sequence { inner, cursor }
     }
 
@@ -74,7 +74,7 @@ impl Sequence {
     fn then_by(self, added: Added, duration: f32) -> Sequenced
         ensures { λ r. ⌜ r ≡ thenBy self added duration ⌝ }
     {
-        let cursor = self.advanced(duration);
+        let cursor = self.cursor_after(duration);
         let inner = added.timeline;
         let next = Sequence { inner, cursor };
         if added.refusal != refusal::ACCEPTED {
@@ -90,8 +90,8 @@ impl Sequence {
     }
 
     // The cursor after so many seconds.
-    fn advanced(self, seconds: f32) -> f32
-        ensures { λ r. ⌜ r ≡ advance (self .cursor) seconds ⌝ }
+    fn cursor_after(self, seconds: f32) -> f32
+        ensures { λ r. ⌜ r ≡ cursorAfter (self .cursor) seconds ⌝ }
     {
         let cursor = self.cursor;
         cursor + float32::max(seconds, 0.0)

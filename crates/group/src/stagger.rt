@@ -1,15 +1,10 @@
 // Many animations, each a delay after the one before (stagger.rs).
 use crate::item;
+use crate::item::Built;
 use timeline::timeline::At;
 use timeline::timeline::Timeline;
 ghost use mathlib.Core.Path.{_≡_};
 ghost use Rattle.group.specs.Stagger.{staggered};
-
-// The answer of a builder; where it is refused, the timeline is empty.
-pub struct Built {
-    pub refusal: u8,
-    pub timeline: Timeline,
-}
 
 // A timeline whose entries start `delay` seconds after one another, labeled `item_0`, `item_1` and so on.
 pub fn stagger(durations: &[f32], delay: f32) -> Built

@@ -1,5 +1,4 @@
 -- `update` is its step.
-use Rattle.group.proofs.Forwards.{forwards-updated}
 use borrow.Author.Needs.{needs}
 use Rattle.group.proofs.group.AnimationGroup.update.Statement.{statement}
 use Rattle.group.proofs.group.AnimationGroup.update.Tie as tie
@@ -23,7 +22,7 @@ same-length-4 : tie.Need-same-length-4
 same-length-4 c = search needs
 
 returns : tie.Need-returns
-returns c = forwards-updated _ _ _ _ _ _ _ _ _ _ _ _ (c .group-updated .ensures) (c .before .before .before .before .before .before .before .before .before .update .ensures)
+returns c = rw (c .group-updated .ensures) (c .before .before .before .before .before .before .before .before .before .update .ensures)
 
 pub update-spec : {M : Type 1} → statement M
 update-spec =

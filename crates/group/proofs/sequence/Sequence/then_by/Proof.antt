@@ -5,8 +5,8 @@ use Rattle.group.specs.Sequence.{thenBy}
 use Rattle.group.proofs.sequence.Sequence.then_by.Statement.{statement}
 use Rattle.group.proofs.sequence.Sequence.then_by.Tie as tie
 
-advanced-requires : tie.Need-advanced-requires
-advanced-requires c κs = search needs
+cursor-after-requires : tie.Need-cursor-after-requires
+cursor-after-requires c κs = search needs
 
 returns : tie.Need-returns
 unfolding thenBy
@@ -16,7 +16,7 @@ returns-2 : tie.Need-returns-2
 unfolding thenBy
 returns-2 c =
     let next = c .before .before .before in
-    rw (eq-eqb (next .before .args .added .refusal) 0 (c .if1 .left), next .advanced .ensures)
+    rw (eq-eqb (next .before .args .added .refusal) 0 (c .if1 .left), next .cursor-after .ensures)
 
 pub then-by-spec : {M : Type 1} → statement M
-then-by-spec = tie.close (tie.spec advanced-requires returns returns-2)
+then-by-spec = tie.close (tie.spec cursor-after-requires returns returns-2)
