@@ -9,18 +9,18 @@
 //
 // A description's floats are given by their bits. Those of a timeline have 7fc00000 for NaN and 00000000 for either zero.
 use crate::spoil;
-use crate::text;
-use crate::text::TEXT;
-use crate::text::least;
-use clock::TimelineState;
+use case_io::fields;
+use case_io::fields::digit;
+use case_io::text::BUFFER;
+use case_io::text::Sink;
 use label::Label;
-use label::MAX_LABEL;
 use refusal::ACCEPTED;
 use sheet_format::description::Description;
 use sheet_format::description::Item;
 use sheet_format::description::Placement;
 use steps::Entry;
 use steps::MAX_ENTRIES;
+use steps::least;
 use timeline::timeline::Timeline;
 use tween::Loop;
 
@@ -31,21 +31,21 @@ pub const SHEET: usize = 4096;
 pub const OLD: u8 = 238;
 
 // The lines of a sheet.
-pub(crate) fn sheet(out: &mut [u8; TEXT], start: usize, bytes: &[u8]) -> usize {
+pub(crate) fn sheet(sink: Sink, buffer: &mut [u8; BUFFER], bytes: &[u8]) -> Sink {
     let reading = sheet::read(bytes);
     let d = reading.described;
     let t = reading.timeline;
-    let at = text::decimal(out, start, reading.refusal as usize);
-    let at = description(out, at, d);
-    let at = timeline(out, at, t);
+    let s = sink.decimal(buffer, reading.refusal as usize);
+    let s = description(s, buffer, d);
+    let s = timeline(s, buffer, t);
     if reading.refusal != ACCEPTED {
-        return at;
+        return s;
     }
     let len = least(bytes.len(), SHEET);
-    let at = written(out, at, bytes, d, len + 8);
-    let at = written(out, at, bytes, d, len);
-    let at = written(out, at, bytes, d, one_less(len));
-    spoil::lines(out, at, d, least(len + 8, SHEET))
+    let s = written(s, buffer, bytes, d, len + 8);
+    let s = written(s, buffer, bytes, d, len);
+    let s = written(s, buffer, bytes, d, one_less(len));
+    spoil::lines(s, buffer, d, least(len + 8, SHEET))
 }
 
 fn one_less(n: usize) -> usize {
@@ -53,150 +53,124 @@ fn one_less(n: usize) -> usize {
 }
 
 // ` count mode number scale`, and the entries.
-fn description(out: &mut [u8; TEXT], start: usize, d: Description) -> usize {
+fn description(sink: Sink, buffer: &mut [u8; BUFFER], d: Description) -> Sink {
     let mode = d.looping;
-    let at = text::number(out, start, d.count);
-    let at = looping(out, at, mode);
-    let at = text::bits(out, at, d.time_scale);
-    let mut at = text::byte(out, at, b'\n');
+    let s = sink.number(buffer, b' ', d.count);
+    let s = looping(s, buffer, mode);
+    let s = s.bits(buffer, b' ', d.time_scale);
+    let mut s = s.byte(buffer, b'\n');
     let n = least(d.count, MAX_ENTRIES);
     let items = d.items;
     let mut i = 0;
     while i < n {
-        at = item(out, at, items[i]);
+        s = item(s, buffer, items[i]);
         i += 1;
     }
-    at
+    s
 }
 
 // ` mode number`
-fn looping(out: &mut [u8; TEXT], at: usize, mode: Loop) -> usize {
+fn looping(sink: Sink, buffer: &mut [u8; BUFFER], mode: Loop) -> Sink {
     match mode {
-        Loop::Once => two(out, at, 0, 0),
-        Loop::Times(n) => two(out, at, 1, n),
-        Loop::Forever => two(out, at, 2, 0),
-        Loop::PingPong => two(out, at, 3, 0),
-        Loop::PingPongTimes(n) => two(out, at, 4, n),
+        Loop::Once => two(sink, buffer, 0, 0),
+        Loop::Times(n) => two(sink, buffer, 1, n),
+        Loop::Forever => two(sink, buffer, 2, 0),
+        Loop::PingPong => two(sink, buffer, 3, 0),
+        Loop::PingPongTimes(n) => two(sink, buffer, 4, n),
     }
 }
 
-fn two(out: &mut [u8; TEXT], start: usize, mode: usize, n: u32) -> usize {
-    let at = text::number(out, start, mode);
-    text::number(out, at, n as usize)
+fn two(sink: Sink, buffer: &mut [u8; BUFFER], mode: usize, n: u32) -> Sink {
+    let s = sink.number(buffer, b' ', mode);
+    s.number(buffer, b' ', n as usize)
 }
 
-fn item(out: &mut [u8; TEXT], start: usize, item: Item) -> usize {
+fn item(sink: Sink, buffer: &mut [u8; BUFFER], item: Item) -> Sink {
     let placement = item.at;
     let label = item.label;
-    let at = text::bytes(out, start, b"  item");
-    let at = placed(out, at, placement);
-    let at = text::bits(out, at, item.duration);
-    label_text(out, at, label)
+    let s = sink.bytes(buffer, b"  item");
+    let s = placed(s, buffer, placement);
+    let s = s.bits(buffer, b' ', item.duration);
+    label_end(s, buffer, label)
 }
 
 // ` kind target seconds`
-fn placed(out: &mut [u8; TEXT], at: usize, placement: Placement) -> usize {
+fn placed(sink: Sink, buffer: &mut [u8; BUFFER], placement: Placement) -> Sink {
     match placement {
-        Placement::Absolute(seconds) => three(out, at, 0, 0, seconds),
-        Placement::Start => three(out, at, 1, 0, 0),
-        Placement::End => three(out, at, 2, 0, 0),
-        Placement::Label(target) => three(out, at, 3, target, 0),
-        Placement::Offset(seconds) => three(out, at, 4, 0, seconds),
+        Placement::Absolute(seconds) => three(sink, buffer, 0, 0, seconds),
+        Placement::Start => three(sink, buffer, 1, 0, 0),
+        Placement::End => three(sink, buffer, 2, 0, 0),
+        Placement::Label(target) => three(sink, buffer, 3, target, 0),
+        Placement::Offset(seconds) => three(sink, buffer, 4, 0, seconds),
     }
 }
 
-fn three(out: &mut [u8; TEXT], start: usize, kind: usize, target: usize, seconds: u32) -> usize {
-    let at = text::number(out, start, kind);
-    let at = text::number(out, at, target);
-    text::bits(out, at, seconds)
+fn three(sink: Sink, buffer: &mut [u8; BUFFER], kind: usize, target: usize, seconds: u32) -> Sink {
+    let s = sink.number(buffer, b' ', kind);
+    let s = s.number(buffer, b' ', target);
+    s.bits(buffer, b' ', seconds)
 }
 
-// ` label` as hex pairs, or ` -`, and the end of the line.
-fn label_text(out: &mut [u8; TEXT], start: usize, label: Label) -> usize {
-    let n = least(label.len as usize, MAX_LABEL);
-    if n == 0 {
-        return text::bytes(out, start, b" -\n");
-    }
-    let bytes = label.bytes;
-    let mut at = text::byte(out, start, b' ');
-    let mut i = 0;
-    while i < n {
-        at = text::hex2(out, at, bytes[i]);
-        i += 1;
-    }
-    text::byte(out, at, b'\n')
+// ` label`, and the end of the line.
+fn label_end(sink: Sink, buffer: &mut [u8; BUFFER], label: Label) -> Sink {
+    let s = sink.byte(buffer, b' ');
+    let s = fields::label(s, buffer, label);
+    s.byte(buffer, b'\n')
 }
 
-fn timeline(out: &mut [u8; TEXT], start: usize, t: Timeline) -> usize {
-    let track = t.track;
-    let mode = track.looping;
-    let at = clock(out, start, t);
-    let at = looping(out, at, mode);
-    let at = text::number(out, at, t.entry_count());
-    let at = text::float(out, at, t.duration());
-    let at = text::float(out, at, t.playback_duration());
-    let at = text::byte(out, at, b'\n');
-    entries(out, at, t)
-}
-
-// `  timeline state elapsed scale fired`
-fn clock(out: &mut [u8; TEXT], start: usize, t: Timeline) -> usize {
+fn timeline(sink: Sink, buffer: &mut [u8; BUFFER], t: Timeline) -> Sink {
     let track = t.track;
     let clock = track.clock;
-    let state = clock.state;
-    let at = text::bytes(out, start, b"  timeline");
-    let at = text::letter(out, at, state_letter(state));
-    let at = text::float(out, at, clock.elapsed);
-    let at = text::float(out, at, clock.time_scale);
-    text::letter(out, at, digit(clock.complete_fired))
+    let mode = track.looping;
+    let s = sink.bytes(buffer, b"  timeline");
+    let s = fields::clock(s, buffer, clock);
+    let s = looping(s, buffer, mode);
+    let s = s.number(buffer, b' ', t.entry_count());
+    let s = s.float(buffer, b' ', t.duration());
+    let s = s.float(buffer, b' ', t.playback_duration());
+    let s = s.byte(buffer, b'\n');
+    entries(s, buffer, t)
 }
 
-fn state_letter(state: TimelineState) -> u8 {
-    match state {
-        TimelineState::Idle => b'I',
-        TimelineState::Playing => b'P',
-        TimelineState::Paused => b'H',
-        TimelineState::Completed => b'C',
-    }
-}
-
-fn digit(b: bool) -> u8 {
-    if b { b'1' } else { b'0' }
-}
-
-fn entries(out: &mut [u8; TEXT], start: usize, t: Timeline) -> usize {
+fn entries(sink: Sink, buffer: &mut [u8; BUFFER], t: Timeline) -> Sink {
     let n = least(t.entry_count(), MAX_ENTRIES);
     let track = t.track;
     let entries = track.entries;
     let labels = t.labels;
-    let mut at = start;
+    let mut s = sink;
     let mut i = 0;
     while i < n {
-        at = entry(out, at, entries[i], labels[i]);
+        s = entry(s, buffer, entries[i], labels[i]);
         i += 1;
     }
-    at
+    s
 }
 
-fn entry(out: &mut [u8; TEXT], start: usize, e: Entry, label: Label) -> usize {
-    let at = text::bytes(out, start, b"  entry");
-    let at = text::float(out, at, e.start);
-    let at = text::float(out, at, e.duration);
-    let at = text::letter(out, at, digit(e.done));
-    label_text(out, at, label)
+fn entry(sink: Sink, buffer: &mut [u8; BUFFER], e: Entry, label: Label) -> Sink {
+    let s = sink.bytes(buffer, b"  entry");
+    let s = s.float(buffer, b' ', e.start);
+    let s = s.float(buffer, b' ', e.duration);
+    let s = s.letter(buffer, b' ', digit(e.done));
+    label_end(s, buffer, label)
 }
 
 // Writes the description where there is room for `size` bytes.
-fn written(out: &mut [u8; TEXT], start: usize, sheet: &[u8], d: Description, size: usize) -> usize {
+fn written(
+    sink: Sink,
+    buffer: &mut [u8; BUFFER],
+    sheet: &[u8],
+    d: Description,
+    size: usize,
+) -> Sink {
     let mut room = [OLD; SHEET];
     let n = least(size, SHEET);
     let made = sheet_format::write(d, &mut room[..n]);
-    let at = text::bytes(out, start, b"  write");
-    let at = text::number(out, at, made.refusal as usize);
-    let at = text::number(out, at, made.len);
-    let at = text::letter(out, at, digit(same(sheet, &room, made.len)));
-    let at = text::letter(out, at, digit(rest(&room, made.len, n)));
-    text::byte(out, at, b'\n')
+    let s = sink.bytes(buffer, b"  write");
+    let s = s.number(buffer, b' ', made.refusal as usize);
+    let s = s.number(buffer, b' ', made.len);
+    let s = s.letter(buffer, b' ', digit(same(sheet, &room, made.len)));
+    let s = s.letter(buffer, b' ', digit(rest(&room, made.len, n)));
+    s.byte(buffer, b'\n')
 }
 
 // Whether the room starts with the first n bytes of the sheet.
@@ -217,7 +191,7 @@ fn same(sheet: &[u8], room: &[u8; SHEET], n: usize) -> bool {
     true
 }
 
-// Whether the room is as it was from one place to another.
+// Whether the room is as it was from one offset to another.
 fn rest(room: &[u8; SHEET], from: usize, to: usize) -> bool {
     let end = least(to, SHEET);
     let mut i = from;

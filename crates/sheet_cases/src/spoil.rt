@@ -5,58 +5,64 @@
 // Without entries b and c spoil nothing.
 use crate::lines::OLD;
 use crate::lines::SHEET;
-use crate::text;
-use crate::text::FNV_OFFSET;
-use crate::text::TEXT;
-use crate::text::least;
+use case_io::text;
+use case_io::text::BUFFER;
+use case_io::text::FNV_OFFSET;
+use case_io::text::Sink;
 use sheet_format::description::Description;
 use sheet_format::description::Item;
 use sheet_format::description::Placement;
 use steps::MAX_ENTRIES;
+use steps::least;
 ghost use Prim.Native.Nat.{_<_};
 ghost use Rattle.steps.specs.Times.{maxEntries};
 
-// What the writes of spoiled descriptions have left so far: where the text goes on, the lengths added up, and the rooms' digest.
+// What the writes of spoiled descriptions have left so far: what is printed, the lengths added up, and the rooms' digest.
 pub struct Spoiled {
-    pub at: usize,
+    pub sink: Sink,
     pub len: usize,
     pub digest: u32,
 }
 
 // Both lines.
-pub(crate) fn lines(out: &mut [u8; TEXT], start: usize, d: Description, size: usize) -> usize {
-    let at = text::bytes(out, start, b"  spoiled");
+pub(crate) fn lines(sink: Sink, buffer: &mut [u8; BUFFER], d: Description, size: usize) -> Sink {
     let s = Spoiled {
-        at,
+        sink: sink.bytes(buffer, b"  spoiled"),
         len: 0,
         digest: FNV_OFFSET,
     };
     let last = last_entry(d.count);
     let label = long_label(d, last);
-    let s = refused(out, s, many(d), size);
-    let s = refused(out, s, label, size);
-    let s = refused(out, s, no_target(d, last), size);
-    let s = refused(out, s, many(label), size);
-    let s = refused(out, s, many(no_target(d, last)), size);
-    let s = refused(out, s, no_target(label, last), size);
-    let s = refused(out, s, no_target(label, last), 0);
-    let s = refused(out, s, no_target(label, 0), size);
-    let at = text::bytes(out, s.at, b"\n  rooms");
-    let at = text::number(out, at, s.len);
-    let at = text::bits(out, at, s.digest);
-    text::byte(out, at, b'\n')
+    let s = refused(s, buffer, many(d), size);
+    let s = refused(s, buffer, label, size);
+    let s = refused(s, buffer, no_target(d, last), size);
+    let s = refused(s, buffer, many(label), size);
+    let s = refused(s, buffer, many(no_target(d, last)), size);
+    let s = refused(s, buffer, no_target(label, last), size);
+    let s = refused(s, buffer, no_target(label, last), 0);
+    let s = refused(s, buffer, no_target(label, 0), size);
+    rooms(s, buffer)
+}
+
+// The end of the one line, and the other.
+fn rooms(left: Spoiled, buffer: &mut [u8; BUFFER]) -> Sink {
+    let sink = left.sink;
+    let s = sink.bytes(buffer, b"\n  rooms");
+    let s = s.number(buffer, b' ', left.len);
+    let s = s.bits(buffer, b' ', left.digest);
+    s.byte(buffer, b'\n')
 }
 
 // ` refusal`, of one write.
-fn refused(out: &mut [u8; TEXT], s: Spoiled, d: Description, size: usize) -> Spoiled {
+fn refused(left: Spoiled, buffer: &mut [u8; BUFFER], d: Description, size: usize) -> Spoiled {
     let mut room = [OLD; SHEET];
     let n = least(size, SHEET);
     let made = sheet_format::write(d, &mut room[..n]);
-    let at = text::number(out, s.at, made.refusal as usize);
+    let sink = left.sink;
     Spoiled {
-        at,
-        len: added(s.len, made.len),
-        digest: digested(s.digest, &room, n),
+        sink: sink.number(buffer, b' ', made.refusal as usize),
+        len: added(left.len, made.len),
+        digest: digested(left.digest, &room, n),
     }
 }
 
@@ -64,7 +70,7 @@ fn refused(out: &mut [u8; TEXT], s: Spoiled, d: Description, size: usize) -> Spo
 fn digested(digest: u32, room: &[u8; SHEET], n: usize) -> u32 {
     let end = least(n, SHEET);
     let bytes: &[u8] = room;
-    text::digest_on(digest, &bytes[..end])
+    text::fold(digest, &bytes[..end])
 }
 
 // Lengths of eight sheets: far below the largest number.
@@ -89,13 +95,13 @@ fn long_label(d: Description, i: usize) -> Description {
     if i >= d.count {
         return d;
     }
-    let place = least(i, MAX_ENTRIES - 1);
+    let slot = least(i, MAX_ENTRIES - 1);
     let items = d.items;
-    let mut item = items[place];
+    let mut item = items[slot];
     let mut label = item.label;
     label.len = 25;
     item.label = label;
-    with_item(d, place, item)
+    with_item(d, slot, item)
 }
 
 // Entry i is placed at the label of an entry that is none.
@@ -103,24 +109,24 @@ fn no_target(d: Description, i: usize) -> Description {
     if i >= d.count {
         return d;
     }
-    let place = least(i, MAX_ENTRIES - 1);
+    let slot = least(i, MAX_ENTRIES - 1);
     let items = d.items;
-    let item = items[place];
+    let item = items[slot];
     let label = item.label;
     let placed = Item {
         duration: item.duration,
         at: Placement::Label(d.count),
         label,
     };
-    with_item(d, place, placed)
+    with_item(d, slot, placed)
 }
 
-// The description with this item at a place.
-fn with_item(d: Description, place: usize, item: Item) -> Description
-    requires { ⌜ place < maxEntries ⌝ }
+// The description with this item in a slot.
+fn with_item(d: Description, slot: usize, item: Item) -> Description
+    requires { ⌜ slot < maxEntries ⌝ }
 {
     let mut items = d.items;
-    items[place] = item;
+    items[slot] = item;
     let mut changed = d;
     changed.items = items;
     changed

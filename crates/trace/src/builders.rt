@@ -1,7 +1,4 @@
-// The calls of a group, and the builders.
-use crate::calls;
-use crate::calls::Run;
-use crate::introspect;
+// The builders.
 use case_io::text::BUFFER;
 use case_io::text::Sink;
 use group::group::AnimationGroup;
@@ -11,6 +8,8 @@ use group::sequence::Sequenced;
 use group::stagger::Built;
 use steps::least;
 use timeline::timeline::Timeline;
+use trace_calls::calls;
+use trace_calls::run::Run;
 use trace_read::Cursor;
 use trace_read::ITEMS;
 use trace_read::Item;
@@ -24,15 +23,6 @@ struct Reached {
     sequence: Sequence,
     refusals: [u8; ITEMS],
     cursors: [f32; ITEMS],
-}
-
-// Call 13: introspect of the group around the timeline.
-pub(crate) fn introspecting(buffer: &mut [u8; BUFFER], run: Run) -> Run {
-    let t = run.timeline;
-    let group = AnimationGroup::from_timeline(t);
-    let s = run.line(buffer, refusal::ACCEPTED, t);
-    let s = introspect::line(s, buffer, group.introspect());
-    run.after(run.cursor, s, t)
 }
 
 // Calls 16 to 19: stagger, and a group's parallel, sequence and stagger.

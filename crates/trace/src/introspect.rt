@@ -1,13 +1,32 @@
-// The line of what a timeline or a group shows of itself.
+// Calls 12 and 13: what a timeline or the group around it shows of itself.
 use case_io::text::BUFFER;
 use case_io::text::Sink;
+use group::group::AnimationGroup;
 use timeline::introspection::AnimationIntrospection;
 use timeline::introspection::AnimationKind;
 use timeline::introspection::Duration;
 use timeline::introspection::PlaybackState;
+use trace_calls::run::Run;
+
+// Call 12: introspect.
+pub(crate) fn timeline(buffer: &mut [u8; BUFFER], run: Run) -> Run {
+    let t = run.timeline;
+    let s = run.line(buffer, refusal::ACCEPTED, t);
+    let s = line(s, buffer, t.introspect());
+    run.after(run.cursor, s, t)
+}
+
+// Call 13: introspect of the group around the timeline.
+pub(crate) fn group(buffer: &mut [u8; BUFFER], run: Run) -> Run {
+    let t = run.timeline;
+    let group = AnimationGroup::from_timeline(t);
+    let s = run.line(buffer, refusal::ACCEPTED, t);
+    let s = line(s, buffer, group.introspect());
+    run.after(run.cursor, s, t)
+}
 
 // `  introspect kind progress elapsed duration state`
-pub(crate) fn line(sink: Sink, buffer: &mut [u8; BUFFER], shown: AnimationIntrospection) -> Sink {
+fn line(sink: Sink, buffer: &mut [u8; BUFFER], shown: AnimationIntrospection) -> Sink {
     let kind = shown.kind;
     let duration = shown.duration;
     let state = shown.state;

@@ -1,17 +1,17 @@
 // Runs scripts of calls on timelines and prints what each call leaves, so that it can be compared with what the Rust leaves.
 //
-// Standard input is as case_io says; its records are scripts of calls, each a call byte (calls.rt) and its operands (trace_read).
-// Each script starts from the empty timeline. For each call a line is written, and then lines of what it sent, listed or answered
-// (trace_lines). A call whose operands run past the script or are not allowed, and an unknown one, is not made: the line `cut` is
-// written, and the rest of the script is passed over.
+// Standard input is as case_io says. Its records are scripts of calls, each a call byte (trace_calls, introspect.rt, builders.rt) and
+// its operands (trace_read). Each script starts from the empty timeline. For each call a line is written, and then lines of what it
+// sent, listed or answered (trace_lines). A call whose operands run past the script or are not allowed, and an unknown one, is not
+// made: the line `cut` is written, and the rest of the script is passed over.
 mod builders;
-mod calls;
 mod introspect;
 
-use calls::Run;
 use case_io::input;
 use case_io::text::BUFFER;
 use case_io::text::Sink;
+use trace_calls::calls;
+use trace_calls::run::Run;
 use trace_read::Cursor;
 
 // The longest script.
@@ -52,7 +52,7 @@ fn run(script: &[u8], buffer: &mut [u8; BUFFER], sink: Sink, short: bool) -> Sin
     let mut r = Run::new(sink);
     let mut i = 0;
     while i < script.len() && more(r.cursor, script.len()) {
-        r = calls::next(script, buffer, i + 1, r);
+        r = next(script, buffer, i + 1, r);
         i += 1;
     }
     let c = r.cursor;
@@ -66,4 +66,19 @@ fn run(script: &[u8], buffer: &mut [u8; BUFFER], sink: Sink, short: bool) -> Sin
 // Whether there is a call to make.
 fn more(c: Cursor, len: usize) -> bool {
     c.whole && c.at < len
+}
+
+// Makes the next call.
+fn next(script: &[u8], buffer: &mut [u8; BUFFER], number: usize, run: Run) -> Run {
+    let cursor = run.cursor;
+    let read = cursor.byte(script);
+    let byte = read.value;
+    let r = run.at_call(number, byte, read);
+    match byte {
+        12 => introspect::timeline(buffer, r),
+        13 => introspect::group(buffer, r),
+        16 | 17 | 18 | 19 => builders::building(script, buffer, r),
+        20 => builders::sequencing(script, buffer, r),
+        _ => calls::make(script, buffer, r),
+    }
 }

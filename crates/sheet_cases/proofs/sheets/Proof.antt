@@ -8,10 +8,10 @@ use Rattle.sheet_cases.proofs.sheets.Statement.{statement}
 use Rattle.sheet_cases.proofs.sheets.Tie as tie
 
 abbrev Inv-loop : tie.InvT-loop
-Inv-loop as-text sheet₀ out₀ number₀ sheet out number = 4096 ≡ length sheet
+Inv-loop text sheet₀ buffer₀ number₀ sheet buffer number = 4096 ≡ length sheet
 
 abbrev μ-loop : tie.MeasureT-loop
-μ-loop as-text sheet₀ out₀ number₀ sheet out number = 18446744073709551615 - number
+μ-loop text sheet₀ buffer₀ number₀ sheet buffer number = 18446744073709551615 - number
 
 loop-holds : tie.Need-loop-holds Inv-loop μ-loop
 loop-holds c = search needs

@@ -6,10 +6,10 @@ use Rattle.sheet_cases.proofs.lines.description.Statement.{statement}
 use Rattle.sheet_cases.proofs.lines.description.Tie as tie
 
 abbrev Inv-loop : tie.InvT-loop
-Inv-loop out₀ start at at' at'' at₀ n items i₀ out at'3 i = (i ≤ n) × (n ≤ 64)
+Inv-loop buffer₀ s₀ n items i₀ buffer s i = (i ≤ n) × (n ≤ 64)
 
 abbrev μ-loop : tie.MeasureT-loop
-μ-loop out₀ start at at' at'' at₀ n items i₀ out at'3 i = n - i
+μ-loop buffer₀ s₀ n items i₀ buffer s i = n - i
 
 number-requires : tie.Need-number-requires Inv-loop μ-loop
 number-requires c κs = search needs

@@ -6,10 +6,10 @@ use Rattle.sheet_cases.proofs.lines.entries.Statement.{statement}
 use Rattle.sheet_cases.proofs.lines.entries.Tie as tie
 
 abbrev Inv-loop : tie.InvT-loop
-Inv-loop out₀ start n entries labels at₀ i₀ out at i = (i ≤ n) × (n ≤ 64)
+Inv-loop buffer₀ n entries labels s₀ i₀ buffer s i = (i ≤ n) × (n ≤ 64)
 
 abbrev μ-loop : tie.MeasureT-loop
-μ-loop out₀ start n entries labels at₀ i₀ out at i = n - i
+μ-loop buffer₀ n entries labels s₀ i₀ buffer s i = n - i
 
 entry-count-requires : tie.Need-entry-count-requires Inv-loop μ-loop
 entry-count-requires c κs = search needs

@@ -1,6 +1,5 @@
-// One call of a script: its operands are read, it is made, and its lines are printed.
-use crate::builders;
-use crate::introspect;
+// The calls of a timeline: the operands are read, the call is made, and its lines are printed.
+use crate::run::Run;
 use case_io::text::BUFFER;
 use case_io::text::Sink;
 use clock::Clock;
@@ -31,92 +30,18 @@ const AMOUNT: f32 = 12345.0;
 
 const PLACE: f32 = -12345.0;
 
-// A script at a call: the call's number and byte, where to read on, and what the calls before it left.
-pub struct Run {
-    pub number: usize,
-    pub byte: u32,
-    pub cursor: Cursor,
-    pub sink: Sink,
-    pub timeline: Timeline,
-}
-
-impl Run {
-    pub(crate) fn new(sink: Sink) -> Run {
-        Run {
-            number: 0,
-            byte: 0,
-            cursor: Cursor::new(),
-            sink,
-            timeline: Timeline::new(),
-        }
-    }
-
-    // The run at its next call, whose operands are behind the cursor.
-    fn at_call(self, number: usize, byte: u32, cursor: Cursor) -> Run {
-        let sink = self.sink;
-        let timeline = self.timeline;
-        Run {
-            number,
-            byte,
-            cursor,
-            sink,
-            timeline,
-        }
-    }
-
-    // The call is not made.
-    pub(crate) fn cut(self) -> Run {
-        let cursor = self.cursor;
-        let stopped = cursor.cut();
-        let mut r = self;
-        r.cursor = stopped;
-        r
-    }
-
-    // The call was made, and left this.
-    pub(crate) fn after(self, cursor: Cursor, sink: Sink, timeline: Timeline) -> Run {
-        Run {
-            number: self.number,
-            byte: self.byte,
-            cursor,
-            sink,
-            timeline,
-        }
-    }
-
-    // Prints the line of the call, which left this timeline.
-    pub(crate) fn line(self, buffer: &mut [u8; BUFFER], refusal: u8, timeline: Timeline) -> Sink {
-        let sink = self.sink;
-        trace_lines::call(
-            sink,
-            buffer,
-            self.number,
-            self.byte,
-            refusal,
-            timeline.track,
-        )
-    }
-}
-
-// Makes the next call.
-pub(crate) fn next(script: &[u8], buffer: &mut [u8; BUFFER], number: usize, run: Run) -> Run {
-    let cursor = run.cursor;
-    let read = cursor.byte(script);
-    let byte = read.value;
-    let r = run.at_call(number, byte, read);
+// Makes the call that the run is at; one that is none of these is cut.
+pub fn make(script: &[u8], buffer: &mut [u8; BUFFER], run: Run) -> Run {
+    let byte = run.byte;
     match byte {
-        0 | 3 | 5 | 6 | 11 | 14 => moving(script, buffer, r),
-        1 | 2 => steering(buffer, r),
-        4 => updating(script, buffer, r),
-        7 => scaling(script, buffer, r),
-        8 | 9 => adding(script, buffer, r),
-        10 => looping(script, buffer, r),
-        12 => introspecting(buffer, r),
-        13 => builders::introspecting(buffer, r),
-        15 => delaying(script, buffer, r),
-        16 | 17 | 18 | 19 => builders::building(script, buffer, r),
-        20 => builders::sequencing(script, buffer, r),
-        _ => r.cut(),
+        0 | 3 | 5 | 6 | 11 | 14 => moving(script, buffer, run),
+        1 | 2 => steering(buffer, run),
+        4 => updating(script, buffer, run),
+        7 => scaling(script, buffer, run),
+        8 | 9 => adding(script, buffer, run),
+        10 => looping(script, buffer, run),
+        15 => delaying(script, buffer, run),
+        _ => run.cut(),
     }
 }
 
@@ -182,24 +107,48 @@ fn move_by(
     match byte {
         0 => t.play(kinds, amounts, places),
         3 => t.reset(kinds, amounts, places),
-        5 => t.seek(Share(to), kinds, amounts, places),
-        6 => t.seek_abs(Secs(to), kinds, amounts, places),
-        11 => {
-            let refusal = t.preview(to, kinds, amounts, places);
-            Moved {
-                refusal,
-                timeline: t,
-            }
-        }
-        _ => {
-            let group = AnimationGroup::from_timeline(t);
-            let m = group.reverse(kinds, amounts, places);
-            let moved = m.group;
-            Moved {
-                refusal: m.refusal,
-                timeline: moved.timeline(),
-            }
-        }
+        5 | 6 => seek_by(byte, t, to, kinds, amounts, places),
+        11 => preview_by(t, to, kinds, amounts, places),
+        _ => reverse(t, kinds, amounts, places),
+    }
+}
+
+fn seek_by(
+    byte: u32,
+    t: Timeline,
+    to: f32,
+    kinds: &mut [u8],
+    amounts: &mut [f32],
+    places: &mut [f32],
+) -> Moved {
+    if byte == 5 {
+        return t.seek(Share(to), kinds, amounts, places);
+    }
+    t.seek_abs(Secs(to), kinds, amounts, places)
+}
+
+fn preview_by(
+    t: Timeline,
+    dt: f32,
+    kinds: &mut [u8],
+    amounts: &mut [f32],
+    places: &mut [f32],
+) -> Moved {
+    let refusal = t.preview(dt, kinds, amounts, places);
+    Moved {
+        refusal,
+        timeline: t,
+    }
+}
+
+// The reverse of the group around the timeline.
+fn reverse(t: Timeline, kinds: &mut [u8], amounts: &mut [f32], places: &mut [f32]) -> Moved {
+    let group = AnimationGroup::from_timeline(t);
+    let m = group.reverse(kinds, amounts, places);
+    let moved = m.group;
+    Moved {
+        refusal: m.refusal,
+        timeline: moved.timeline(),
     }
 }
 
@@ -256,14 +205,19 @@ fn set(buffer: &mut [u8; BUFFER], run: Run, cursor: Cursor, t: Timeline) -> Run 
 
 // Calls 1 and 2: pause and resume.
 fn steering(buffer: &mut [u8; BUFFER], run: Run) -> Run {
-    let t = run.timeline;
-    if lends(run.number) {
-        return set(buffer, run, run.cursor, steer_lent(run.byte, t));
+    set(
+        buffer,
+        run,
+        run.cursor,
+        steered(run.byte, run.number, run.timeline),
+    )
+}
+
+fn steered(byte: u32, number: usize, t: Timeline) -> Timeline {
+    if lends(number) {
+        return steer_lent(byte, t);
     }
-    if run.byte == 1 {
-        return set(buffer, run, run.cursor, t.pause());
-    }
-    set(buffer, run, run.cursor, t.resume())
+    if byte == 1 { t.pause() } else { t.resume() }
 }
 
 // Pause, resume and the scale stand twice in the library: calls with an odd number are made on a clock that is lent.
@@ -279,9 +233,12 @@ fn steer_lent(byte: u32, t: Timeline) -> Timeline {
     with_clock(t, clock::lend_resume(track.clock))
 }
 
-fn scale_lent(t: Timeline, scale: f32) -> Timeline {
-    let track = t.track;
-    with_clock(t, clock::lend_set_time_scale(track.clock, scale))
+fn scaled(number: usize, t: Timeline, scale: f32) -> Timeline {
+    if lends(number) {
+        let track = t.track;
+        return with_clock(t, clock::lend_set_time_scale(track.clock, scale));
+    }
+    t.set_time_scale(scale)
 }
 
 // The timeline, whose clock was lent and came back.
@@ -295,16 +252,13 @@ fn with_clock(t: Timeline, clock: Clock) -> Timeline {
 
 // Call 7: set_time_scale.
 fn scaling(script: &[u8], buffer: &mut [u8; BUFFER], run: Run) -> Run {
-    let t = run.timeline;
     let cursor = run.cursor;
     let scale = cursor.word(script);
-    if !scale.whole {
-        return run.cut();
+    if scale.whole {
+        let t = scaled(run.number, run.timeline, scale.float());
+        return set(buffer, run, scale, t);
     }
-    if lends(run.number) {
-        return set(buffer, run, scale, scale_lent(t, scale.float()));
-    }
-    set(buffer, run, scale, t.set_time_scale(scale.float()))
+    run.cut()
 }
 
 // Call 10: looping.
@@ -393,17 +347,9 @@ fn last_labeled(t: Timeline, target: &[u8]) -> usize {
 }
 
 // The entries of a timeline.
-pub(crate) fn entries(sink: Sink, buffer: &mut [u8; BUFFER], t: Timeline) -> Sink {
+pub fn entries(sink: Sink, buffer: &mut [u8; BUFFER], t: Timeline) -> Sink {
     let labels = t.labels;
     trace_lines::entries(sink, buffer, t.track, labels)
-}
-
-// Call 12: introspect.
-fn introspecting(buffer: &mut [u8; BUFFER], run: Run) -> Run {
-    let t = run.timeline;
-    let s = run.line(buffer, refusal::ACCEPTED, t);
-    let s = introspect::line(s, buffer, t.introspect());
-    run.after(run.cursor, s, t)
 }
 
 // Call 15: delay.

@@ -1,9 +1,9 @@
--- `trace::calls::moved` is safe: each slice has the places that are lent.
+-- `trace_calls::calls::moved` is safe: each slice has the places that are lent.
 use native.Mathlib.Omega.{arith}
 use borrow.Author.Needs.{needs}
 use Rattle.case_io.proofs.Room.{front}
-use Rattle.trace.proofs.calls.moved.Statement.{statement}
-use Rattle.trace.proofs.calls.moved.Tie as tie
+use Rattle.trace_calls.proofs.calls.moved.Statement.{statement}
+use Rattle.trace_calls.proofs.calls.moved.Tie as tie
 
 fresh-bytes-requires : tie.Need-fresh-bytes-requires
 fresh-bytes-requires c κs = search needs

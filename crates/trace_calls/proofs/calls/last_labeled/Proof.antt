@@ -1,8 +1,8 @@
--- `trace::calls::last_labeled` is safe and ends. The measure is the entries that are left.
+-- `trace_calls::calls::last_labeled` is safe and ends. The measure is the entries that are left.
 use Prim.Native.Nat.{_≤_, _-_}
 use native.Mathlib.Omega.{arith}
-use Rattle.trace.proofs.calls.last_labeled.Statement.{statement}
-use Rattle.trace.proofs.calls.last_labeled.Tie as tie
+use Rattle.trace_calls.proofs.calls.last_labeled.Statement.{statement}
+use Rattle.trace_calls.proofs.calls.last_labeled.Tie as tie
 
 abbrev Inv-loop : tie.InvT-loop
 Inv-loop target n labels last₀ i₀ last i = (i ≤ n) × (n ≤ 64)

@@ -1,9 +1,9 @@
--- `trace::calls::updated` is safe: each slice has the places that are lent.
+-- `trace_calls::calls::updated` is safe: each slice has the places that are lent.
 use borrow.Author.Needs.{needs}
 use native.Mathlib.Omega.{arith}
 use Rattle.case_io.proofs.Room.{front}
-use Rattle.trace.proofs.calls.updated.Statement.{statement}
-use Rattle.trace.proofs.calls.updated.Tie as tie
+use Rattle.trace_calls.proofs.calls.updated.Statement.{statement}
+use Rattle.trace_calls.proofs.calls.updated.Tie as tie
 
 fresh-bytes-requires : tie.Need-fresh-bytes-requires
 fresh-bytes-requires c κs = search needs

@@ -1,0 +1,3 @@
+// The calls of a script on a timeline (trace).
+pub mod calls;
+pub mod run;
