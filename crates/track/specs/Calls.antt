@@ -98,16 +98,16 @@ advancedTo k a =
 unfoldable pub updated : Track → Float → List ℕ → TrackOut
 updated k dt rs = cond (isPlaying (k .clock .state)) (advancedTo k (playing k dt rs)) (rested k)
 
--- 5: "the update's completions, counted by the Rust's rule, outnumber the lent list", which has this many places
+-- 5: "the update's completions, counted by the Rust's rule, outnumber the lent list", which has room for this many
 abbrev pub fitted : ℕ → Track → TrackOut → TrackOut
-fitted places k o = refusedIf (ltb places (length (o .listed))) listTooShort k o
+fitted capacity k o = refusedIf (ltb capacity (length (o .listed))) listTooShort k o
 
 -- `update`: "Order: 3, 4, 5. A panel that isn't Playing still checks 3 and 4."
 unfoldable pub updatedWith : Track → Float → List ℕ → ℕ → Room → TrackOut
-updatedWith k dt rs places r =
+updatedWith k dt rs capacity r =
     refusedIf (short r k) rowsTooShort k
     (refusedIf (repliesBad rs k) badReplies k
-    (fitted places k (updated k dt rs)))
+    (fitted capacity k (updated k dt rs)))
 
 -- the preview: "the rows that `update` with room enough would write and changes nothing in the panel"; "it refuses by 3 only"
 unfoldable pub previewed : Track → Float → Room → TrackOut
@@ -133,5 +133,5 @@ trackStep k Resume = trackSilent accepted (withClock k (resumed (k .clock)))
 trackStep k (Reset r) = sent k (cleared (k .clock)) Clear r
 trackStep k (Seek share r) = soughtTo k (shareOf k share) r
 trackStep k (SeekAbs secs r) = soughtTo k secs r
-trackStep k (Update dt rs places r) = updatedWith k dt rs places r
+trackStep k (Update dt rs capacity r) = updatedWith k dt rs capacity r
 trackStep k (Preview dt r) = previewed k dt r
