@@ -4,7 +4,7 @@ use mathlib.Core.Path.{_≡_, refl, sym, ap, _∙_}
 use mathlib.Core.Bool.{true, _&&_}
 use mathlib.Core.List.{List, [], _∷_, _++_, append-assoc}
 use native.Mathlib.Omega.{arith}
-use borrow.Author.Tests.{eqb-true, le-leb}
+use borrow.Author.Tests.{eqb-true, le-leb, le-ltb}
 use lib.Dec.{eqb}
 use lib.ListN.{length, take, drop, replicate, length-take, length-drop, take-append-drop}
 use lib.Seq.{take-add, take-at, drop-drop, getD-drop, drop-length}
@@ -196,4 +196,4 @@ module _ (s : List ℕ) (y : Bytes s) (a : Accepted s) where
       let h = a .header in
       let lr = length-drop (recordsAt (countIn s)) s in
       let t = targets-good s (countIn s) (countIn s) (drop headerSize s) (drop (recordsAt (countIn s)) s) (omega arith) (bytes-drop (recordsAt (countIn s)) s y) (a .records) in
-      rw (count-same s, le-leb (countIn s) maxEntries (h .few), items-same s, labels-good s (countIn s) (drop headerSize s) (drop (recordsAt (countIn s)) s), t)
+      rw (count-same s, le-ltb maxEntries (countIn s) (h .few), items-same s, labels-good s (countIn s) (drop headerSize s) (drop (recordsAt (countIn s)) s), t)

@@ -1,10 +1,10 @@
 // Reading a stored sheet (paper 01, "The sheet"): its description, and the timeline that it builds. sheet_format has the checks and the writer.
+use label::text_len;
 use refusal::ACCEPTED;
 use sheet_format::describe;
 use sheet_format::description::Description;
 use sheet_format::description::Item;
 use sheet_format::description::Placement;
-use sheet_format::text_len;
 use steps::MAX_ENTRIES;
 use timeline::timeline::At;
 use timeline::timeline::Timeline;

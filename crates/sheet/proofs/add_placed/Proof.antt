@@ -16,12 +16,12 @@ at-of-requires c κs = search needs
 array-share-prefix-bytes : tie.Need-array-share-prefix-bytes
 array-share-prefix-bytes c =
     let l = c .before .before .before .before .args .item .label in
-    omega (arith, c .before .before .text-len .ensures .0, length-take (l .len) (l .bytes))
+    omega (arith, c .before .before .text-len .ensures .2, length-take (l .len) (l .bytes))
 
 slice-aggregate-add : tie.Need-slice-aggregate-add
 slice-aggregate-add c =
     let l = c .before .before .before .before .before .args .item .label in
-    omega (arith, c .before .before .before .text-len .ensures .0, length-take (l .len) (l .bytes), length-take (c .before .before .before .text-len .result) (l .bytes))
+    omega (arith, c .before .before .before .text-len .ensures .2, length-take (l .len) (l .bytes), length-take (c .before .before .before .text-len .result) (l .bytes))
 
 from-bits-requires : tie.Need-from-bits-requires
 from-bits-requires c κs = search needs
@@ -31,7 +31,7 @@ add-requires c κs = search needs
 
 returns : tie.Need-returns
 returns c =
-    placed _ _ _ _ _ _ _ _ (c .before .add .ensures) (text-part (c .before .before .before .before .before .before .before .before .args .item .label) _ (c .before .before .before .before .before .before .text-len .ensures .0)) (c .before .before .before .before .at-of .ensures) (c .before .before .from-bits .ensures)
+    placed _ _ _ _ _ _ _ _ (c .before .add .ensures) (text-part (c .before .before .before .before .before .before .before .before .args .item .label) _ (c .before .before .before .before .before .before .text-len .ensures .2)) (c .before .before .before .before .at-of .ensures) (c .before .before .from-bits .ensures)
 
 pub add-placed-spec : {M : Type 1} → statement M
 add-placed-spec =
