@@ -17,10 +17,9 @@ ghost use Prim.Native.Nat.{_+_, _<_, _≤_};
 ghost use lib.ListN.{length, take, drop};
 ghost use Rattle.sheet_format.specs.Words.{word};
 ghost use Rattle.call_log.specs.Lines.{Refused, shown, lineSize};
-ghost use Rattle.track.specs.Columns.{trackOf};
 ghost use Rattle.track.specs.Answers.{lentTrack, leftTrack};
 ghost use Rattle.call_log.specs.Logs.{isCut, callSize, outcomeAt};
-ghost use Rattle.call_log.specs.Machine.{Lends, Made, logIn, lentLog, LogsTo, RunsTo, sheetRoom, closedLog, openLine, openedBy, counted, lined, leastBytes, batchOf, batchedBy};
+ghost use Rattle.call_log.specs.Machine.{Lends, Made, lentLog, leftLog, LogsTo, RunsTo, sheetRoom, closedLog, openLine, openedBy, counted, lined, leastBytes, batchOf, batchedBy};
 ghost use Rattle.call_log.specs.Claim.{Claim};
 
 // The longest sheet: 64 entries, with labels of 24 bytes.
@@ -188,7 +187,7 @@ fn run(
     ended: bool,
     out: &mut [u8],
 ) -> Ran
-    ensures { λ r. ⌜ RunsTo (batchOf ended (lentLog number logging head starts durations marks) (now (bytes .entry)) (length (now (out .entry)))) r (logIn (r .number) logging (trackOf (r .head) (now (starts .entry)) (now (durations .entry)) (now (marks .exit)))) (now (out .entry)) (now (out .exit)) ⌝ }
+    ensures { λ r. ⌜ RunsTo (batchOf ended (lentLog number logging head starts durations marks) (now (bytes .entry)) (length (now (out .entry)))) r (leftLog (r .number) logging (r .head) starts durations marks) (now (out .entry)) (now (out .exit)) ⌝ }
 {
     let replies = [1u8; MAX_ENTRIES];
     let mut list = [0u8; LIST];
@@ -253,7 +252,7 @@ fn next(
     at: usize,
 ) -> Logged
     requires { ⌜ Lends (now replies) (now list) (now kinds) (now amounts) (now places) × (at + lineSize ≤ length (now out)) ⌝ }
-    ensures { λ r. ⌜ LogsTo (lentLog number logging head starts durations marks) (now (rest .entry)) r (logIn (r .number) logging (trackOf (r .head) (now (starts .entry)) (now (durations .entry)) (now (marks .exit)))) at (now (out .entry)) (now (out .exit)) ⌝ }
+    ensures { λ r. ⌜ LogsTo (lentLog number logging head starts durations marks) (now (rest .entry)) r (leftLog (r .number) logging (r .head) starts durations marks) at (now (out .entry)) (now (out .exit)) ⌝ }
 {
     if !logging {
         return Logged { len: 0, number, head };
