@@ -1,6 +1,6 @@
 -- Calls on the live entries alone, and the same calls on the whole track: a batch of them, too.
 use Prim.Native.Nat.{ℕ, zero, suc, _-_, _≤_, min}
-use mathlib.Core.Path.{_≡_, refl, sym, ap, _∙_}
+use mathlib.Core.Path.{_≡_, refl, sym, ap, subst, _∙_}
 use mathlib.Core.Bool.{Bool, true, false, cond}
 use mathlib.Core.List.{List, [], _∷_}
 use native.Mathlib.Omega.{arith}
@@ -21,9 +21,10 @@ use Rattle.track.proofs.Columns.{length-entries}
 use Rattle.track.proofs.Marks.{over-over, over-part, take-over, over-all}
 use Rattle.track.proofs.Trimmed.{Sized, whole, step-sized}
 use Rattle.call_log.specs.declared.Log.{Log}
+use Rattle.call_log.specs.declared.Ran.{Ran}
 use Rattle.call_log.specs.Lines.{shownAll}
 use Rattle.call_log.specs.Logs.{callSize, outcome, outcomeAt, callLine}
-use Rattle.call_log.specs.Machine.{counted, isOver, nextLines, nextLog, nextBytes, isNext, Calls, noCalls, callThen, batchFrom, batchOf}
+use Rattle.call_log.specs.Machine.{counted, isOver, nextLines, nextLog, nextBytes, isNext, Calls, noCalls, callThen, batchFrom, batchOf, batchedBy, lined, RunsTo}
 
 -- a track is its live entries, put back
 pub own-back : (k : Track) → putBack k (trimmed k) ≡ k
@@ -137,3 +138,24 @@ gathered k h ss ds ms e =
     let size : length es ≤ maxEntries = omega (arith, e, length-take (min (h .count) 256) (entriesOf ss ds ms), length-entries ss ds ms) in
     ap (λ (xs : List Entry). record { count = k .count; entries = over xs (k .entries); clock = h .clock; looping = h .looping })
     (ap (take maxEntries) (take-length es) ∙ take-all maxEntries es size)
+
+-- with the count put back, it is what the contract of `gather` says
+counted-back : (k : Track) (h : Playhead) (ss ds : List Float) (ms : List Bool) {g : Track} → g ≡ laidOver k (trackOf h ss ds ms)
+    → record { count = k .count; entries = g .entries; clock = g .clock; looping = g .looping } ≡ regained k (trackOf h ss ds ms)
+unfolding laidOver
+counted-back k h ss ds ms e = ap (λ (x : Track). record { count = k .count; entries = x .entries; clock = x .clock; looping = x .looping }) e
+
+-- the calls of a batch run in columns of 64, in which the whole track was laid out: what is gathered is what the batch leaves of it
+pub runs-whole : (ended : Bool) (log : Log) (bytes old new : List ℕ) {q g : Track} (h : Playhead) (ss ds : List Float) (ms : List Bool) (r : Ran) → q ≡ trimmed (log .track)
+    → RunsTo (batchOf ended (record { number = log .number; logging = log .logging; track = q }) bytes (length old)) r (record { number = r .number; logging = log .logging; track = trackOf h ss ds ms }) old new
+    → g ≡ laidOver (log .track) (trackOf h ss ds ms) → 64 ≡ length ss
+    → (record { used = r .used; len = r .len; log = record { number = r .number; logging = log .logging; track = record { count = log .track .count; entries = g .entries; clock = g .clock; looping = g .looping } } } ≡ batchedBy (batchOf ended log bytes (length old)))
+    × (new ≡ lined (batchOf ended log bytes (length old) .text) old)
+runs-whole ended log bytes old new {q} {g} h ss ds ms r laid runs eg size =
+    let k = log .track in
+    let b = batchOf ended (record { number = log .number; logging = log .logging; track = trimmed k }) bytes (length old) in
+    let left : Log = record { number = r .number; logging = log .logging; track = trackOf h ss ds ms } in
+    let own : RunsTo b r left old new = subst (λ (t : Track). RunsTo (batchOf ended (record { number = log .number; logging = log .logging; track = t }) bytes (length old)) r left old new) laid runs in
+    let track : record { count = k .count; entries = g .entries; clock = g .clock; looping = g .looping } ≡ putBack k (trackOf h ss ds ms) = counted-back k h ss ds ms eg ∙ gathered k h ss ds ms size in
+    rw (batch-back ended log bytes (length old), track, own .used, own .len)
+    (ap (λ (l : Log). record { used = b .used; len = length (b .text); log = backLog k l }) (own .log), own .text)

@@ -1,7 +1,7 @@
 -- The calls of a script, made in place on what plays.
-use Prim.Native.Nat.{ℕ, _≤_}
+use Prim.Native.Nat.{ℕ, _+_, _-_, _≤_}
 use mathlib.Core.Path.{_≡_, refl, sym, ap, _∙_}
-use mathlib.Core.Bool.{Bool, true, false, cond}
+use mathlib.Core.Bool.{Bool, true, false, cond, not, _||_}
 use mathlib.Core.List.{List, [], append-nil}
 use native.Mathlib.Omega.{arith}
 use borrow.Author.Tests.{ne-eqb, ltb-false}
@@ -10,6 +10,7 @@ use lib.Ieee.{Float}
 use lib.ListN.{length, take, drop, length-append, length-drop}
 use lib.Seq.{take-at}
 use Rattle.float32.specs.Helpers.{toBits}
+use Rattle.digits.proofs.PutAt.{putAt-nil}
 use Rattle.steps.specs.declared.Rule.{Rule}
 use Rattle.steps.specs.Slices.{over}
 use Rattle.clock.specs.declared.Clock.{Clock}
@@ -22,9 +23,10 @@ use Rattle.track.specs.Calls.{Room, roomOf, TrackCall, SetTimeScale, Play, Paus
 use Rattle.track.specs.Answers.{Answer, MovesBy, UpdatesBy}
 use Rattle.call_log.specs.declared.calls.Outcome.{Outcome}
 use Rattle.call_log.specs.declared.Log.{Log}
-use Rattle.call_log.specs.Lines.{Called, shown, shownAll}
+use Rattle.call_log.specs.Lines.{Called, shown, shownAll, lineSize, Wrote}
 use Rattle.call_log.specs.Logs.{callSize, listSize, replies, room, outcome, outcomeAt, callLine}
-use Rattle.call_log.specs.Machine.{Lends, Made, counted, isOver, nextLines, nextLog, nextBytes}
+use Rattle.call_log.specs.Machine.{Lends, Made, LogsTo, counted, isOver, nextLines, nextLog, nextBytes}
+use Rattle.call_log.proofs.Writing.{wrote-as}
 
 -- slices of 64 places are room for all entries
 pub room-is : (k : List ℕ) (a p : List Float) → length k ≡ 64 → length a ≡ 64 → length p ≡ 64 → roomOf k a p ≡ room
@@ -184,6 +186,10 @@ module _ (t : Track) (rest : List ℕ) (r : Outcome) (q : Track) (l l′ : List 
 
 -- ---- the next line
 
+clock-of : (h : Playhead) (ss ds : List Float) (ms : List Bool) → trackOf h ss ds ms .clock ≡ h .clock
+unfolding trackOf
+clock-of h ss ds ms = refl
+
 module _ (log : Log) (rest : List ℕ) where
   pub next-over : isOver log rest ≡ true → (nextBytes log rest ≡ []) × (nextLog log rest ≡ log)
   unfolding nextLines nextLog shownAll
@@ -193,3 +199,34 @@ module _ (log : Log) (rest : List ℕ) where
       × (nextLog log rest ≡ record { number = counted (log .number); logging = true; track = outcomeAt (log .track) rest .track })
   unfolding nextLines nextLog shownAll
   next-goes e = rw (e, append-nil) (refl, refl)
+
+  -- no line is due
+  pub logs-none : (head : Playhead) (at : ℕ) (out : List ℕ) → isOver log rest ≡ true → LogsTo log rest (record { len = 0; number = log .number; head = head }) log at out out
+  logs-none head at out e = let o = next-over e in record { len = rw (o .0); few = omega arith; log = sym (o .1); text = rw (o .0) (sym (putAt-nil at out)) }
+
+-- a line is due: so the sheet was accepted
+is-on : (on none : Bool) → (not on || none) ≡ false → on ≡ true
+is-on true none e = refl
+is-on false none e = sym e
+
+-- the line of a call made in columns, with the playhead then
+module _ (number : ℕ) (logging : Bool) (head : Playhead) (ss ds : List Float) (ms ms′ : List Bool) (rest : List ℕ) where
+  abbrev logNow : Log
+  logNow = record { number = number; logging = logging; track = trackOf head ss ds ms }
+
+  pub logs-one : (r : Outcome) (h : Playhead) (l l′ : List ℕ) (n at end : ℕ) (old new : List ℕ) → isOver logNow rest ≡ false → length l ≡ listSize
+      → Made (outcomeAt (trackOf head ss ds ms) rest) r (trackOf (withClockAt head (r .clock)) ss ds ms′) l l′ → n ≡ counted number → h ≡ withClockAt head (r .clock)
+      → Wrote (shown (Called n (letterOf (r .clock .state)) (toBits (r .clock .elapsed)) (r .refusal) (take (r .listed) l′))) at old new end → end ≤ at + lineSize
+      → LogsTo logNow rest (record { len = end - at; number = n; head = h }) (record { number = n; logging = logging; track = trackOf h ss ds ms′ }) at old new
+  logs-one r h l l′ n at end old new e size made en eh wrote few =
+      let o = next-goes logNow rest e in
+      let q = trackOf (withClockAt head (r .clock)) ss ds ms′ in
+      let line = line-is (trackOf head ss ds ms) rest r q l l′ size made (r .clock) n (counted number) en (clock-of (withClockAt head (r .clock)) ss ds ms′) in
+      let w = wrote-as (sym (ap shown line)) wrote in
+      let ends = w .ends in
+      record {
+        len = rw (o .0) (omega arith);
+        few = omega arith;
+        log = rw (o .1, en, is-on logging (eqb (length rest) 0) e, eh, made .track);
+        text = rw (o .0) (w .bytes);
+      }

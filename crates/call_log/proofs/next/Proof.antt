@@ -1,12 +1,22 @@
+-- No line where none is due; else the call and its line.
+use native.Mathlib.Omega.{arith}
+use borrow.Author.Tests.{eq-eqb, ne-eqb}
+use lib.ListN.{length}
+use Rattle.track.specs.Columns.{trackOf}
+use Rattle.call_log.proofs.Making.{list-size, list-count, logs-none, logs-one}
 use borrow.Author.Needs.{needs}
 use Rattle.call_log.proofs.next.Statement.{statement}
 use Rattle.call_log.proofs.next.Tie as tie
 
 returns : tie.Need-returns
-returns c = ?
+returns c =
+    let a = c .before .before .before .before .before .before .before .before .before .before .before .args in
+    logs-none (record { number = a .number; logging = a .logging; track = trackOf (a .head) (a .starts .now) (a .durations .now) (a .marks .now) }) (a .rest .now) (a .head) (a .at) (a .out .now) (rw (c .if1 .taken))
 
 returns-2 : tie.Need-returns-2
-returns-2 c = ?
+returns-2 c =
+    let a = c .before .before .before .before .before .before .before .before .before .before .before .before .args in
+    logs-none (record { number = a .number; logging = a .logging; track = trackOf (a .head) (a .starts .now) (a .durations .now) (a .marks .now) }) (a .rest .now) (a .head) (a .at) (a .out .now) (rw (c .before .if1 .left, eq-eqb (length (a .rest .now)) 0 (omega arith)))
 
 made-at-requires : tie.Need-made-at-requires
 made-at-requires c κs = search needs
@@ -15,13 +25,20 @@ counted-requires : tie.Need-counted-requires
 counted-requires c κs = search needs
 
 called-requires : tie.Need-called-requires
-called-requires c κs = ?
+called-requires c κs =
+    let start = c .before .before .before .before .before .before .before .before .before .before .before .before .before .before .before .before .before .before .before .before .before .before .before .before .before .before .before .before .before .before .before .before in
+    let a = start .args in
+    let t = trackOf (a .head) (a .starts .now) (a .durations .now) (a .marks .now) in
+    let made = c .before .before .before .before .before .before .before .before .before .before .before .before .before .before .made-at in
+    let count = list-count t (a .rest .now) (made .result) _ (a .list .now) _ (start .pre .0 .list) (made .ensures) in
+    let size = list-size t (a .rest .now) (made .result) _ (a .list .now) _ (start .pre .0 .list) (made .ensures) in
+    (count, omega arith, start .pre .1)
 
 with-clock-requires : tie.Need-with-clock-requires
 with-clock-requires c κs = search needs
 
 sub-t21 : tie.Need-sub-t21
-sub-t21 c = search needs
+sub-t21 c = omega (arith, c .before .before .before .called .ensures .0 .ends)
 
 same-length : tie.Need-same-length
 same-length c = search needs
@@ -42,7 +59,13 @@ same-length-6 : tie.Need-same-length-6
 same-length-6 c = search needs
 
 returns-3 : tie.Need-returns-3
-returns-3 c = ?
+returns-3 c =
+    let start = c .before .before .before .before .before .before .before .before .before .before .before .before .before .before .before .before .before .before .before .before .before .before .before .before .before .before .before .before .before .before .before .before .before .before .before .before in
+    let a = start .args in
+    let made = c .before .before .before .before .before .before .before .before .before .before .before .before .before .before .before .before .before .before .made-at in
+    let called = c .before .before .before .called in
+    logs-one (a .number) (a .logging) (a .head) (a .starts .now) (a .durations .now) (a .marks .now) _ (a .rest .now) (made .result) _ (a .list .now) _ _ (a .at) _ (a .out .now) _
+    (rw (c .before .before .before .before .before .before .before .before .before .before .before .before .before .before .before .before .before .before .before .before .before .before .before .before .before .if1 .left, ne-eqb (length (a .rest .now)) 0 (c .before .before .before .before .before .before .before .before .before .before .before .before .before .before .before .before .before .before .before .before .before .before .before .before .if2 .left))) (start .pre .0 .list) (made .ensures) (c .before .before .before .before .before .before .before .counted .ensures) (c .with-clock .ensures) (called .ensures .0) (called .ensures .1)
 
 pub next-spec : {M : Type 1} → statement M
 next-spec =
