@@ -10,9 +10,10 @@ use lib.ListN.{length, take, drop, length-drop}
 use lib.Seq.{take-all, drop-drop}
 use Rattle.digits.specs.Digits.{putAt}
 use Rattle.call_log.specs.declared.Log.{Log}
+use Rattle.call_log.specs.declared.Ran.{Ran}
 use Rattle.call_log.specs.Lines.{lineSize, Wrote}
 use Rattle.call_log.specs.Logs.{callSize}
-use Rattle.call_log.specs.Machine.{nextBytes, nextLog, leastBytes, isNext, noCalls, callThen, batchFrom, batchOf, batchedBy, lined}
+use Rattle.call_log.specs.Machine.{nextBytes, nextLog, leastBytes, isNext, noCalls, callThen, batchFrom, batchOf, RunsTo}
 use Rattle.call_log.proofs.Writing.{wrote-length, wrote-then, wrote-none, wrote-all}
 
 -- ---- one call more
@@ -119,8 +120,8 @@ module _ (ended : Bool) (log₀ : Log) (bytes old : List ℕ) where
       }
 
   -- no line more
-  pub no-more : (out : List ℕ) (log : Log) (used len : ℕ) → SoFar ended log₀ bytes old out log used len → isNext ended (drop used bytes) (length old - len) ≡ false
-      → (record { used = used; len = len; log = log } ≡ batchedBy (batchOf ended log₀ bytes (length old))) × (out ≡ lined (batchOf ended log₀ bytes (length old) .text) old)
-  no-more out log used len s e =
+  pub no-more : (out : List ℕ) (log : Log) (used len : ℕ) (r : Ran) → r .used ≡ used → r .len ≡ len → SoFar ended log₀ bytes old out log used len → isNext ended (drop used bytes) (length old - len) ≡ false
+      → RunsTo (batchOf ended log₀ bytes (length old)) r log old out
+  no-more out log used len r u l s e =
       let all : batchOf ended log₀ bytes (length old) ≡ callThen used (s .text) (noCalls log) = rw (no-calls ended log (drop used bytes) (length old - len) e) at (s .whole) in
-      rw (all, append-nil, add-zero) (ap (λ (n : ℕ). record { used = used; len = n; log = log }) (wrote-all (s .wrote)), s .wrote .bytes)
+      rw (all, append-nil, add-zero) (record { used = u; len = l ∙ wrote-all (s .wrote); log = refl; text = s .wrote .bytes })

@@ -1,6 +1,7 @@
 -- Laws of lines and logs.
 pub mod Writing
 pub mod Making
+pub mod InPlace
 pub mod Fronts
 pub mod Batches
 pub mod Turns

@@ -1,7 +1,7 @@
--- The calls of a script, made on a timeline.
-use Prim.Native.Nat.{ℕ, _≤_}
+-- The calls of a script, made in place on what plays.
+use Prim.Native.Nat.{ℕ, _+_, _-_, _≤_}
 use mathlib.Core.Path.{_≡_, refl, sym, ap, _∙_}
-use mathlib.Core.Bool.{Bool, true, false, cond}
+use mathlib.Core.Bool.{Bool, true, false, cond, not, _||_}
 use mathlib.Core.List.{List, [], append-nil}
 use native.Mathlib.Omega.{arith}
 use borrow.Author.Tests.{ne-eqb, ltb-false}
@@ -10,23 +10,27 @@ use lib.Ieee.{Float}
 use lib.ListN.{length, take, drop, length-append, length-drop}
 use lib.Seq.{take-at}
 use Rattle.float32.specs.Helpers.{toBits}
+use Rattle.digits.proofs.PutAt.{putAt-nil}
 use Rattle.steps.specs.declared.Rule.{Rule}
-use Rattle.clock.specs.declared.Clock.{Clock}
-use Rattle.track.specs.declared.track.Track.{Track}
 use Rattle.steps.specs.Slices.{over}
+use Rattle.clock.specs.declared.Clock.{Clock}
+use Rattle.clock.specs.Clocks.{letterOf}
+use Rattle.track.specs.declared.track.Track.{Track}
+use Rattle.track.specs.declared.track.Playhead.{Playhead}
+use Rattle.track.specs.Columns.{trackOf, withClockAt}
 use Rattle.track.specs.Updates.{repliesBad}
-use Rattle.track.specs.Calls.{Room, roomOf, TrackCall, SetTimeScale, Play, Pause, Resume, Reset, Seek, SeekAbs, Update, TrackOut, short, unless, updated, updatedWith, sent, soughtTo, trackStep, silent, movedBy, updatedBy}
-use Rattle.track.specs.declared.track.TrackMoved.{TrackMoved}
-use Rattle.track.specs.declared.track.TrackUpdated.{TrackUpdated}
+use Rattle.track.specs.Calls.{Room, roomOf, TrackCall, SetTimeScale, Play, Pause, Resume, Reset, Seek, SeekAbs, Update, TrackOut, short, refusedIf, updated, updatedWith, sent, soughtTo, trackStep, trackSilent}
+use Rattle.track.specs.Answers.{Answer, MovesBy, UpdatesBy}
 use Rattle.call_log.specs.declared.calls.Outcome.{Outcome}
 use Rattle.call_log.specs.declared.Log.{Log}
-use Rattle.call_log.specs.Lines.{Called, letterOf, shown, shownAll}
+use Rattle.call_log.specs.Lines.{Called, shown, shownAll, lineSize, Wrote}
 use Rattle.call_log.specs.Logs.{callSize, listSize, replies, room, outcome, outcomeAt, callLine}
-use Rattle.call_log.specs.Machine.{outcomeOf, Made, counted, isOver, nextLines, nextLog, nextBytes}
+use Rattle.call_log.specs.Machine.{Lends, Made, LogsTo, counted, isOver, nextLines, nextLog, nextBytes}
+use Rattle.call_log.proofs.Writing.{wrote-as}
 
 -- slices of 64 places are room for all entries
-pub room-is : (k : List ℕ) (a p : List Float) → 64 ≡ length k → 64 ≡ length a → 64 ≡ length p → roomOf k a p ≡ room
-room-is k a p e f g = rw (← e, ← f, ← g)
+pub room-is : (k : List ℕ) (a p : List Float) → length k ≡ 64 → length a ≡ 64 → length p ≡ 64 → roomOf k a p ≡ room
+room-is k a p e f g = rw (e, f, g)
 
 -- ---- calls that list nothing
 
@@ -55,49 +59,77 @@ module _ (t : Track) where
   unfolding trackStep soughtTo
   seek-abs-quiet x = sent-quiet _ _ _ _
 
-  -- the answer of a call that moved what plays
-  pub made-moved : (call : Room → TrackCall) (k : List ℕ) (a p : List Float) (m : TrackMoved) (r : Outcome) → 64 ≡ length k → 64 ≡ length a → 64 ≡ length p
-      → m ≡ movedBy (trackStep t (call (roomOf k a p))) → r ≡ record { refusal = m .refusal; listed = 0; track = m .track } → trackStep t (call room) .listed ≡ []
-      → r ≡ outcomeOf (trackStep t (call room))
-  made-moved call k a p m r e f g h i q = rw (i, h, room-is k a p e f g, q)
+-- ---- the answers, as calls in place leave them
 
-  -- the answer of an update, and its list
-  pub made-updated : (x : Float) (rs l l′ k : List ℕ) (a p : List Float) (m : TrackUpdated) → rs ≡ replies → 256 ≡ length l → 64 ≡ length k → 64 ≡ length a → 64 ≡ length p
-      → m ≡ updatedBy (trackStep t (Update x rs (length l) (roomOf k a p))) → l′ ≡ over (trackStep t (Update x rs (length l) (roomOf k a p)) .listed) l
-      → Made (trackStep t (Update x replies listSize room)) (record { refusal = m .refusal; listed = m .listed; track = m .track }) l l′
-  made-updated x rs l l′ k a p m d b e f g h i =
-      let o : trackStep t (Update x rs (length l) (roomOf k a p)) ≡ trackStep t (Update x replies listSize room) = rw (d, ← b, room-is k a p e f g) in
-      record { answer = rw (h, o); list = rw o at i }
+module _ (head : Playhead) (ss ds : List Float) (ms : List Bool) where
+  abbrev t : Track
+  t = trackOf head ss ds ms
 
--- what a call that lists nothing leaves in the list
-pub made-quiet : (o : TrackOut) (r : Outcome) (l : List ℕ) → r ≡ outcomeOf o → o .listed ≡ [] → Made o r l l
-made-quiet o r l e q = record { answer = e; list = rw q }
+  -- the outcome keeps what the call answered
+  abbrev Keeps : Outcome → ℕ → ℕ → Clock → Type 0
+  Keeps r n listed c = (r .refusal ≡ n) × (r .listed ≡ listed) × (r .clock ≡ c)
+
+  abbrev left : Clock → List Bool → Track
+  left c ms′ = trackOf (withClockAt head c) ss ds ms′
+
+  -- a call that moved what plays
+  pub made-moved : (call : Room → TrackCall) (k k′ : List ℕ) (a a′ p p′ : List Float) (ms′ : List Bool) (l : List ℕ) (n : ℕ) (c : Clock) (r : Outcome) → length k ≡ 64 → length a ≡ 64 → length p ≡ 64
+      → MovesBy (trackStep t (call (roomOf k a p))) n (left c ms′) k k′ a a′ p p′ → Keeps r n 0 c → trackStep t (call room) .listed ≡ []
+      → Made (trackStep t (call room)) r (left (r .clock) ms′) l l
+  made-moved call k k′ a a′ p p′ ms′ l n c r ek ea ep m e quiet =
+      let o : trackStep t (call (roomOf k a p)) ≡ trackStep t (call room) = ap (λ (x : Room). trackStep t (call x)) (room-is k a p ek ea ep) in
+      record {
+        refusal = e .0 ∙ m .refusal ∙ ap (λ (x : TrackOut). x .refusal) o;
+        listed = e .1 ∙ sym (ap length quiet);
+        track = ap (λ (d : Clock). left d ms′) (e .2) ∙ m .track ∙ ap (λ (x : TrackOut). x .track) o;
+        list = rw quiet;
+      }
+
+  -- an update
+  pub made-updated : (x : Float) (rs l l′ k k′ : List ℕ) (a a′ p p′ : List Float) (ms′ : List Bool) (answer : Answer) (c : Clock) (r : Outcome) → Lends rs l k a p
+      → UpdatesBy (trackStep t (Update x rs (length l) (roomOf k a p))) answer (left c ms′) l l′ k k′ a a′ p p′ → Keeps r (answer .refusal) (answer .listed) c
+      → Made (trackStep t (Update x replies listSize room)) r (left (r .clock) ms′) l l′
+  made-updated x rs l l′ k k′ a a′ p p′ ms′ answer c r lent m e =
+      let o : trackStep t (Update x rs (length l) (roomOf k a p)) ≡ trackStep t (Update x replies listSize room) = rw (lent .ones, lent .list, room-is k a p (lent .kinds) (lent .amounts) (lent .places)) in
+      record {
+        refusal = e .0 ∙ ap (λ (y : Answer). y .refusal) (m .answer) ∙ ap (λ (y : TrackOut). y .refusal) o;
+        listed = e .1 ∙ ap (λ (y : Answer). y .listed) (m .answer) ∙ ap (λ (y : TrackOut). length (y .listed)) o;
+        track = ap (λ (d : Clock). left d ms′) (e .2) ∙ m .track ∙ ap (λ (y : TrackOut). y .track) o;
+        list = m .list ∙ ap (λ (y : TrackOut). over (y .listed) l) o;
+      }
+
+  -- a call that set the clock, and one that is none
+  pub made-silent : (n : ℕ) (o : TrackOut) (h : Playhead) (c : Clock) (r : Outcome) (l : List ℕ) → o ≡ trackSilent n (o .track) → left c ms ≡ o .track → h ≡ withClockAt head c → Keeps r n 0 (h .clock)
+      → Made o r (left (r .clock) ms) l l
+  made-silent n o h c r l s u w e =
+      record {
+        refusal = e .0 ∙ sym (ap (λ (x : TrackOut). x .refusal) s);
+        listed = e .1 ∙ sym (ap (λ (x : TrackOut). length (x .listed)) s);
+        track = ap (λ (d : Clock). left d ms) (e .2 ∙ ap (λ (x : Playhead). x .clock) w) ∙ u;
+        list = sym (ap (λ (x : TrackOut). over (x .listed) l) s);
+      }
 
 -- ---- which call a byte makes
 
 module _ (t : Track) (byte : ℕ) (x : Float) where
   -- a byte that is no call
-  pub outcome-unknown : (byte ≡ 0 → ⊥) → (byte ≡ 1 → ⊥) → (byte ≡ 2 → ⊥) → (byte ≡ 3 → ⊥) → (byte ≡ 4 → ⊥) → (byte ≡ 5 → ⊥) → (byte ≡ 6 → ⊥) → (byte ≡ 7 → ⊥) → outcome t byte x ≡ silent 14 t
+  pub outcome-unknown : (byte ≡ 0 → ⊥) → (byte ≡ 1 → ⊥) → (byte ≡ 2 → ⊥) → (byte ≡ 3 → ⊥) → (byte ≡ 4 → ⊥) → (byte ≡ 5 → ⊥) → (byte ≡ 6 → ⊥) → (byte ≡ 7 → ⊥) → outcome t byte x ≡ trackSilent 14 t
   unfolding outcome
   outcome-unknown a b c d e f g h = rw (ne-eqb byte 0 a, ne-eqb byte 1 b, ne-eqb byte 2 c, ne-eqb byte 3 d, ne-eqb byte 4 e, ne-eqb byte 5 f, ne-eqb byte 6 g, ne-eqb byte 7 h)
 
 -- the calls that set something
 module _ (t : Track) where
-  pub pause-set : trackStep t Pause ≡ silent 0 (trackStep t Pause .track)
+  pub pause-set : trackStep t Pause ≡ trackSilent 0 (trackStep t Pause .track)
   unfolding trackStep
   pause-set = refl
 
-  pub resume-set : trackStep t Resume ≡ silent 0 (trackStep t Resume .track)
+  pub resume-set : trackStep t Resume ≡ trackSilent 0 (trackStep t Resume .track)
   unfolding trackStep
   resume-set = refl
 
-  pub scale-set : (x : Float) → trackStep t (SetTimeScale x) ≡ silent 0 (trackStep t (SetTimeScale x) .track)
+  pub scale-set : (x : Float) → trackStep t (SetTimeScale x) ≡ trackSilent 0 (trackStep t (SetTimeScale x) .track)
   unfolding trackStep
   scale-set x = refl
-
--- the answer of a call that set something
-pub made-set : (o : TrackOut) (u : Track) (r : Outcome) (l : List ℕ) → o ≡ silent 0 (o .track) → u ≡ o .track → r ≡ outcomeOf (silent 0 u) → Made o r l l
-made-set o u r l s e f = made-quiet o r l (f ∙ ap (λ (v : Track). outcomeOf (silent 0 v)) e ∙ ap outcomeOf (sym s)) (ap (λ (q : TrackOut). q .listed) s)
 
 -- ---- how much is listed
 
@@ -105,20 +137,16 @@ cond-few : (b : Bool) (x y : TrackOut) → length (x .listed) ≤ listSize → l
 cond-few true x y e f = e
 cond-few false x y e f = f
 
-few-track : (b : Bool) (x y : TrackOut) → length (x .listed) ≤ listSize → length (y .listed) ≤ listSize → length (cond b x y .listed) ≤ listSize
-few-track true x y e f = e
-few-track false x y e f = f
-
 -- 5 refuses more
-few-fitted : (b : Bool) (k : Track) (o : TrackOut) → ltb listSize (length (o .listed)) ≡ b → length (unless b 5 k o .listed) ≤ listSize
+few-fitted : (b : Bool) (k : Track) (o : TrackOut) → ltb listSize (length (o .listed)) ≡ b → length (refusedIf b 5 k o .listed) ≤ listSize
 few-fitted true k o e = omega arith
 few-fitted false k o e = ltb-false _ _ e
 
 few-updated : (t : Track) (x : Float) → length (trackStep t (Update x replies listSize room) .listed) ≤ listSize
 unfolding trackStep updatedWith
 few-updated t x =
-    few-track (short room t) _ _ (omega arith)
-    (few-track (repliesBad replies t) _ _ (omega arith) (few-fitted _ t (updated t x replies) refl))
+    cond-few (short room t) _ _ (omega arith)
+    (cond-few (repliesBad replies t) _ _ (omega arith) (few-fitted _ t (updated t x replies) refl))
 
 few-quiet : (o : TrackOut) → o .listed ≡ [] → length (o .listed) ≤ listSize
 few-quiet o e = rw e (omega arith)
@@ -133,31 +161,34 @@ few-outcome t byte x =
     (cond-few (eqb byte 4) _ _ (few-updated t x)
     (cond-few (eqb byte 5) _ _ (few-quiet (trackStep t (Seek x room)) (seek-quiet t x))
     (cond-few (eqb byte 6) _ _ (few-quiet (trackStep t (SeekAbs x room)) (seek-abs-quiet t x))
-    (cond-few (eqb byte 7) _ (silent 14 t) (few-quiet (trackStep t (SetTimeScale x)) (ap (λ (o : TrackOut). o .listed) (scale-set t x))) (omega arith))))))))
+    (cond-few (eqb byte 7) _ (trackSilent 14 t) (few-quiet (trackStep t (SetTimeScale x)) (ap (λ (o : TrackOut). o .listed) (scale-set t x))) (omega arith))))))))
 
 pub few-listed : (t : Track) (rest : List ℕ) → length (outcomeAt t rest .listed) ≤ listSize
 unfolding outcomeAt
-few-listed t rest = cond-few (ltb (length rest) callSize) (silent 14 t) _ (omega arith) (few-outcome t _ _)
+few-listed t rest = cond-few (ltb (length rest) callSize) (trackSilent 14 t) _ (omega arith) (few-outcome t _ _)
 
 -- what the lent list holds then
-module _ (t : Track) (rest : List ℕ) (r : Outcome) (l l′ : List ℕ) (size : listSize ≡ length l) (made : Made (outcomeAt t rest) r l l′) where
-  pub list-size : listSize ≡ length l′
+module _ (t : Track) (rest : List ℕ) (r : Outcome) (q : Track) (l l′ : List ℕ) (size : length l ≡ listSize) (made : Made (outcomeAt t rest) r q l l′) where
+  pub list-size : length l′ ≡ listSize
   list-size =
       let o = outcomeAt t rest in
       omega (arith, few-listed t rest, ap length (made .list), length-append (o .listed) (drop (length (o .listed)) l), length-drop (length (o .listed)) l)
 
   pub list-count : r .listed ≤ listSize
-  list-count = rw (made .answer) (few-listed t rest)
+  list-count = rw (made .listed) (few-listed t rest)
 
   -- the line of the call
-  pub line-is : (n m : ℕ) → n ≡ m
-      → Called n (letterOf (r .track .clock .state)) (toBits (r .track .clock .elapsed)) (r .refusal) (take (r .listed) l′) ≡ callLine m (outcomeAt t rest)
+  pub line-is : (c : Clock) (n m : ℕ) → n ≡ m → q .clock ≡ c → Called n (letterOf (c .state)) (toBits (c .elapsed)) (r .refusal) (take (r .listed) l′) ≡ callLine m (outcomeAt t rest)
   unfolding callLine
-  line-is n m e =
+  line-is c n m e f =
       let o = outcomeAt t rest in
-      rw (made .list, made .answer, e, take-at (o .listed) (drop (length (o .listed)) l) (length (o .listed)) refl)
+      rw (← f, made .list, made .refusal, made .listed, made .track, e, take-at (o .listed) (drop (length (o .listed)) l) (length (o .listed)) refl)
 
 -- ---- the next line
+
+clock-of : (h : Playhead) (ss ds : List Float) (ms : List Bool) → trackOf h ss ds ms .clock ≡ h .clock
+unfolding trackOf
+clock-of h ss ds ms = refl
 
 module _ (log : Log) (rest : List ℕ) where
   pub next-over : isOver log rest ≡ true → (nextBytes log rest ≡ []) × (nextLog log rest ≡ log)
@@ -168,3 +199,34 @@ module _ (log : Log) (rest : List ℕ) where
       × (nextLog log rest ≡ record { number = counted (log .number); logging = true; track = outcomeAt (log .track) rest .track })
   unfolding nextLines nextLog shownAll
   next-goes e = rw (e, append-nil) (refl, refl)
+
+  -- no line is due
+  pub logs-none : (head : Playhead) (at : ℕ) (out : List ℕ) → isOver log rest ≡ true → LogsTo log rest (record { len = 0; number = log .number; head = head }) log at out out
+  logs-none head at out e = let o = next-over e in record { len = rw (o .0); few = omega arith; log = sym (o .1); text = rw (o .0) (sym (putAt-nil at out)) }
+
+-- a line is due: so the sheet was accepted
+is-on : (on none : Bool) → (not on || none) ≡ false → on ≡ true
+is-on true none e = refl
+is-on false none e = sym e
+
+-- the line of a call made in columns, with the playhead then
+module _ (number : ℕ) (logging : Bool) (head : Playhead) (ss ds : List Float) (ms ms′ : List Bool) (rest : List ℕ) where
+  abbrev logNow : Log
+  logNow = record { number = number; logging = logging; track = trackOf head ss ds ms }
+
+  pub logs-one : (r : Outcome) (h : Playhead) (l l′ : List ℕ) (n at end : ℕ) (old new : List ℕ) → isOver logNow rest ≡ false → length l ≡ listSize
+      → Made (outcomeAt (trackOf head ss ds ms) rest) r (trackOf (withClockAt head (r .clock)) ss ds ms′) l l′ → n ≡ counted number → h ≡ withClockAt head (r .clock)
+      → Wrote (shown (Called n (letterOf (r .clock .state)) (toBits (r .clock .elapsed)) (r .refusal) (take (r .listed) l′))) at old new end → end ≤ at + lineSize
+      → LogsTo logNow rest (record { len = end - at; number = n; head = h }) (record { number = n; logging = logging; track = trackOf h ss ds ms′ }) at old new
+  logs-one r h l l′ n at end old new e size made en eh wrote few =
+      let o = next-goes logNow rest e in
+      let q = trackOf (withClockAt head (r .clock)) ss ds ms′ in
+      let line = line-is (trackOf head ss ds ms) rest r q l l′ size made (r .clock) n (counted number) en (clock-of (withClockAt head (r .clock)) ss ds ms′) in
+      let w = wrote-as (sym (ap shown line)) wrote in
+      let ends = w .ends in
+      record {
+        len = rw (o .0) (omega arith);
+        few = omega arith;
+        log = rw (o .1, en, is-on logging (eqb (length rest) 0) e, eh, made .track);
+        text = rw (o .0) (w .bytes);
+      }

@@ -4,11 +4,11 @@ use lib.Ieee.{add, sub, mul, div, rem, neg, ofInt, ofBits, toBits, toUnsigned, i
 use Rattle.float32.specs.Helpers.{maxF, minF, clampF}
 use Rattle.digits.specs.Digits.{codeOf, digits, decimalPlacesFrom, decimalPlaces, decimal}
 use Rattle.steps.specs.Times.{baseOf, timesRun, runOf, timesLocal, pingPong, localTime}
-use Rattle.steps.specs.Rows.{untouched, cleared, synced, tickRow, tickedOver, tickedIn, ticked, resetFirst}
+use Rattle.steps.specs.Rows.{untouched, resetStep, synced, ticked, resetFirst}
 use Rattle.label.specs.Label.{sameText, firstFrom, firstLike}
 use Rattle.clock.specs.Clocks as clocks
 use Rattle.track.specs.Tracks.{emptyTrack, progressIn}
-use Rattle.track.specs.Updates.{aboveOne, ticks, newlyDone, tickedTo, syncedTo, playing}
+use Rattle.track.specs.Updates.{aboveOne, ticks, newlyDone, advanced, playing}
 use Rattle.clock.specs.Clocks.{playRule, shareIn, nextElapsed, advancedClock}
 use Rattle.track.specs.Calls.{sent, soughtTo, advancedTo, rested, updated, updatedWith, trackStep}
 use Rattle.timeline.specs.Placements.{empty, namedStart, resolveStart}
@@ -26,5 +26,5 @@ unfolding shown codeOf digits decimalPlacesFrom decimalPlaces decimal toBits
 nan-shown = refl
 
 pub worked : logBytes exampleInput ≡ exampleLog
-unfolding exampleInput exampleLog logOf numbersFrom afterCalls callLine outcomeAt outcome sheetNumber isCut shownAll shown readingOf callsOf callsFrom descriptionIn itemsFrom placementOf loopOf emptyDescription checkNumber recordsNumber recordNumber pairsNumber headerNumber word step after addedAt empty namedStart resolveStart trackStep updatedWith updated rested advancedTo soughtTo playRule sent nextElapsed aboveOne ticks newlyDone tickedTo syncedTo playing advancedClock emptyTrack progressIn shareIn clocks.withState clocks.scaled clocks.cleared clocks.started clocks.playState clocks.played clocks.paused clocks.resumed clocks.seekTo clocks.seekState clocks.sought sameText firstFrom firstLike untouched cleared synced tickRow tickedOver tickedIn ticked resetFirst baseOf timesRun runOf timesLocal pingPong localTime codeOf digits decimalPlacesFrom decimalPlaces decimal maxF minF clampF add sub mul div rem neg ofInt ofBits toBits toUnsigned isNan lt le eq
+unfolding exampleInput exampleLog logOf numbersFrom afterCalls callLine outcomeAt outcome sheetNumber isCut shownAll shown readingOf callsOf callsFrom descriptionIn itemsFrom placementOf loopOf emptyDescription checkNumber recordsNumber recordNumber pairsNumber headerNumber word step after addedAt empty namedStart resolveStart trackStep updatedWith updated rested advancedTo soughtTo playRule sent nextElapsed aboveOne ticks newlyDone advanced playing advancedClock emptyTrack progressIn shareIn clocks.withState clocks.scaled clocks.cleared clocks.started clocks.playState clocks.played clocks.paused clocks.resumed clocks.seekTo clocks.seekState clocks.sought clocks.reachOf sameText firstFrom firstLike untouched resetStep synced ticked resetFirst baseOf timesRun runOf timesLocal pingPong localTime codeOf digits decimalPlacesFrom decimalPlaces decimal maxF minF clampF add sub mul div rem neg ofInt ofBits toBits toUnsigned isNan lt le eq
 worked = refl

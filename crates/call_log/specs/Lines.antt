@@ -4,8 +4,6 @@ use mathlib.Core.Path.{_≡_}
 use mathlib.Core.List.{List, [], _∷_, _++_, foldl, map}
 use lib.ListN.{length}
 use Rattle.digits.specs.Digits.{hexText, decimal, putAt}
-use Rattle.clock.specs.declared.TimelineState.{TimelineState}
-use Rattle.clock.specs.declared.TimelineState.the-variants.{Idle, Playing, Paused, Completed}
 
 -- ---- lines
 
@@ -17,13 +15,6 @@ pub data Line : Type 0 where
   Accepted : ℕ → ℕ → ℕ → Line
   -- "per call: number from 1, state letter .. and elapsed bits after the call, refusal, completed entry numbers"
   Called : ℕ → ℕ → ℕ → ℕ → List ℕ → Line
-
--- "state letter (I, P, H for Paused, C)"
-abbrev pub letterOf : TimelineState → ℕ
-letterOf Idle = 73
-letterOf Playing = 80
-letterOf Paused = 72
-letterOf Completed = 67
 
 -- ---- how they are shown
 
@@ -65,7 +56,7 @@ shownAll (l ∷ ls) = shown l ++ shownAll ls
 abbrev pub lineSize : ℕ
 lineSize = 1060
 
--- a text was put into the array old at a place, which left new; what comes after it starts at next
+-- a text was put into the array old at an offset, which left new; what comes after it starts at next
 pub record Wrote (text : List ℕ) (at : ℕ) (old new : List ℕ) (next : ℕ) : Type 0 where
   pub bytes : new ≡ putAt text at old
   pub ends : next ≡ at + length text

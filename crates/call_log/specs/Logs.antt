@@ -8,12 +8,13 @@ use lib.Ieee.{Float}
 use Rattle.float32.specs.Helpers.{fromBits, toBits}
 use Rattle.refusal.specs.Refusal.{accepted, sheetLength, badCall}
 use Rattle.steps.specs.Times.{maxEntries}
+use Rattle.clock.specs.Clocks.{letterOf}
 use Rattle.track.specs.Tracks.{live, trackBase, trackRun}
 use Rattle.track.specs.declared.track.Track.{Track}
-use Rattle.track.specs.Calls.{Room, SetTimeScale, Play, Pause, Resume, Reset, Seek, SeekAbs, Update, TrackOut, silent, trackStep}
+use Rattle.track.specs.Calls.{Room, SetTimeScale, Play, Pause, Resume, Reset, Seek, SeekAbs, Update, TrackOut, trackSilent, trackStep}
 use Rattle.sheet_format.specs.Words.{byteAt, word}
 use Rattle.sheet.specs.Build.{readingOf}
-use Rattle.call_log.specs.Lines.{Line, Refused, Accepted, Called, letterOf, shownAll}
+use Rattle.call_log.specs.Lines.{Line, Refused, Accepted, Called, shownAll}
 
 -- ---- the sheet
 
@@ -75,12 +76,12 @@ outcome k byte x =
     (cond (eqb byte 4) (trackStep k (Update x replies listSize room))
     (cond (eqb byte 5) (trackStep k (Seek x room))
     (cond (eqb byte 6) (trackStep k (SeekAbs x room))
-    (cond (eqb byte 7) (trackStep k (SetTimeScale x)) (silent badCall k))))))))
+    (cond (eqb byte 7) (trackStep k (SetTimeScale x)) (trackSilent badCall k))))))))
 
 -- the call at the front of what is left of the script; fewer bytes than a call has are no call
 unfoldable pub outcomeAt : Track → List ℕ → TrackOut
 outcomeAt k rest =
-    cond (ltb (length rest) callSize) (silent badCall k) (outcome k (byteAt rest 0) (fromBits (word 4 (drop 1 rest))))
+    cond (ltb (length rest) callSize) (trackSilent badCall k) (outcome k (byteAt rest 0) (fromBits (word 4 (drop 1 rest))))
 
 -- the line of a call with its number
 unfoldable pub callLine : ℕ → TrackOut → Line

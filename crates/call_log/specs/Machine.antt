@@ -1,34 +1,47 @@
 -- What the functions of this crate answer, and the log that comes of calling them in turn, as the program does. Definitions only.
-use Prim.Native.Nat.{ℕ, zero, suc, _+_, _-_}
+use denote.Ref.{now}
+use Prim.Native.Nat.{ℕ, zero, suc, _+_, _-_, _≤_}
 use mathlib.Core.Path.{_≡_}
 use mathlib.Core.Bool.{Bool, true, false, cond, not, _||_, _&&_}
 use mathlib.Core.List.{List, [], _∷_, _++_, foldl}
 use lib.Dec.{eqb, ltb, leb}
 use lib.ListN.{length, take, drop}
+use lib.Ieee.{Float}
 use Rattle.refusal.specs.Refusal.{accepted}
 use Rattle.digits.specs.Digits.{putAt}
 use Rattle.track.specs.declared.track.Track.{Track}
+use Rattle.track.specs.declared.track.Playhead.{Playhead}
 use Rattle.steps.specs.Slices as slices
+use Rattle.steps.specs.Times.{maxEntries}
 use Rattle.track.specs.Tracks.{emptyTrack}
+use Rattle.track.specs.Columns.{trackOf}
+use Rattle.track.specs.Answers.{Lent, lentTrack}
 use Rattle.track.specs.Calls.{TrackOut}
 use Rattle.sheet_format.specs.Words.{word}
 use Rattle.call_log.specs.declared.calls.Outcome.{Outcome}
 use Rattle.call_log.specs.declared.Log.{Log}
 use Rattle.call_log.specs.declared.Opened.{Opened}
 use Rattle.call_log.specs.declared.Logged.{Logged}
+use Rattle.call_log.specs.declared.Ran.{Ran}
 use Rattle.call_log.specs.declared.Batched.{Batched}
 use Rattle.call_log.specs.Lines.{Line, Refused, shown, shownAll, lineSize}
-use Rattle.call_log.specs.Logs.{maxSheet, lengthSize, sheetNumber, sheetLine, trackIn, callSize, outcomeAt, callLine}
+use Rattle.call_log.specs.Logs.{maxSheet, lengthSize, sheetNumber, sheetLine, trackIn, callSize, listSize, replies, outcomeAt, callLine}
 
 -- ---- a call
 
--- what the code keeps of a call
-abbrev pub outcomeOf : TrackOut → Outcome
-outcomeOf o = record { refusal = o .refusal; listed = length (o .listed); track = o .track }
+-- what is lent to a call: the replies, a list, and row slices with room for all entries
+pub record Lends (rs l k : List ℕ) (a p : List Float) : Type 0 where
+  pub ones : rs ≡ replies
+  pub list : length l ≡ listSize
+  pub kinds : length k ≡ maxEntries
+  pub amounts : length a ≡ maxEntries
+  pub places : length p ≡ maxEntries
 
--- what a call leaves in the outcome and in the lent list
-pub record Made (o : TrackOut) (r : Outcome) (old new : List ℕ) : Type 0 where
-  pub answer : r ≡ outcomeOf o
+-- what a call answers, the track that it leaves in the columns, and the lent list before and after
+pub record Made (o : TrackOut) (r : Outcome) (left : Track) (old new : List ℕ) : Type 0 where
+  pub refusal : r .refusal ≡ o .refusal
+  pub listed : r .listed ≡ length (o .listed)
+  pub track : left ≡ o .track
   pub list : new ≡ slices.over (o .listed) old
 
 -- ---- `open`
@@ -83,9 +96,21 @@ nextLog log rest =
 abbrev pub nextBytes : Log → List ℕ → List ℕ
 nextBytes log rest = shownAll (nextLines log rest)
 
--- the answer of `next`
-abbrev pub loggedBy : Log → List ℕ → Logged
-loggedBy log rest = record { len = length (nextBytes log rest); log = nextLog log rest }
+-- a log whose track plays in the lent columns
+abbrev pub lentLog : ℕ → Bool → Playhead → Lent Float → Lent Float → Lent Bool → Log
+lentLog number logging head starts durations marks = record { number = number; logging = logging; track = lentTrack head starts durations marks }
+
+-- and the log that is left in them
+abbrev pub leftLog : ℕ → Bool → Playhead → Lent Float → Lent Float → Lent Bool → Log
+leftLog number logging head starts durations marks =
+    record { number = number; logging = logging; track = trackOf head (now (starts .entry)) (now (durations .entry)) (now (marks .exit)) }
+
+-- `next`: its answer, the log that is left, and the lent array before and after
+pub record LogsTo (before : Log) (rest : List ℕ) (r : Logged) (left : Log) (at : ℕ) (old new : List ℕ) : Type 0 where
+  pub len : r .len ≡ length (nextBytes before rest)
+  pub few : r .len ≤ lineSize
+  pub log : left ≡ nextLog before rest
+  pub text : new ≡ putAt (nextBytes before rest) at old
 
 -- what is left in the lent array: the text at its front
 abbrev pub lined : List ℕ → List ℕ → List ℕ
@@ -130,6 +155,13 @@ batchOf ended log bytes room = batchFrom (length bytes) ended log bytes room
 -- the answer of `batch`
 abbrev pub batchedBy : Calls → Batched
 batchedBy c = record { used = c .used; len = length (c .text); log = c .log }
+
+-- `run`: its answer, the log that is left, and the lent array before and after
+pub record RunsTo (c : Calls) (r : Ran) (left : Log) (old new : List ℕ) : Type 0 where
+  pub used : r .used ≡ c .used
+  pub len : r .len ≡ length (c .text)
+  pub log : left ≡ c .log
+  pub text : new ≡ lined (c .text) old
 
 -- ---- the program
 

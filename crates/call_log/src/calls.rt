@@ -1,151 +1,105 @@
-// The calls of a script, each made on what plays. "Leaves always reply 1; the list holds 256."
-use steps::MAX_ENTRIES;
+// The calls of a script, each made in place on what plays. "Leaves always reply 1; the list holds 256."
+use clock::Clock;
+use player::engine;
+use player::engine::Moved;
+use player::engine::Updated;
+use track::track::Playhead;
 use track::track::Secs;
 use track::track::Share;
-use track::track::Track;
-use track::track::TrackMoved;
 ghost use mathlib.Core.Path.{_≡_};
-ghost use lib.ListN.{length, replicate};
 ghost use Rattle.refusal.specs.Refusal.{accepted, badCall};
-ghost use Rattle.steps.specs.Times.{maxEntries};
-ghost use Rattle.track.specs.Calls.{Play, Reset, Seek, SeekAbs, Update, silent, trackStep};
-ghost use Rattle.call_log.specs.Logs.{listSize, replies, room, outcome};
-ghost use Rattle.call_log.specs.Machine.{outcomeOf, Made};
+ghost use Rattle.track.specs.Answers.{lentTrack, leftTrack};
+ghost use Rattle.call_log.specs.Logs.{replies, outcome};
+ghost use Rattle.call_log.specs.Machine.{Made, Lends};
 
 // How many completed entries an update can list.
 pub const LIST: usize = 256;
 
-// What a call leaves and answers.
+// What a call answers, and the clock that it leaves.
 pub struct Outcome {
     pub refusal: u8,
     pub listed: usize,
-    pub track: Track,
+    pub clock: Clock,
 }
 
 // Makes the call of this byte with this f32.
-pub(crate) fn make(t: Track, byte: u8, x: f32, list: &mut [u8; LIST]) -> Outcome
-    ensures { λ r. ⌜ Made (outcome t byte x) r (now (list .entry)) (now (list .exit)) ⌝ }
+pub(crate) fn make(
+    head: Playhead,
+    byte: u8,
+    x: f32,
+    starts: &[f32],
+    durations: &[f32],
+    marks: &mut [bool],
+    replies: &[u8],
+    list: &mut [u8],
+    kinds: &mut [u8],
+    amounts: &mut [f32],
+    places: &mut [f32],
+) -> Outcome
+    requires { ⌜ Lends (now replies) (now list) (now kinds) (now amounts) (now places) ⌝ }
+    ensures { λ r. ⌜ Made (outcome (lentTrack head starts durations marks) byte x) r (leftTrack head (r .clock) starts durations marks) (now (list .entry)) (now (list .exit)) ⌝ }
 {
     match byte {
-        0 => play(t),
-        1 => set(t.pause()),
-        2 => set(t.resume()),
-        3 => reset(t),
-        4 => update(t, x, list),
-        5 => seek(t, x),
-        6 => seek_abs(t, x),
-        7 => set(t.set_time_scale(x)),
-        _ => unknown(t),
+        0 => moved(engine::play(head, starts, durations, marks, kinds, amounts, places)),
+        1 => set(head.pause()),
+        2 => set(head.resume()),
+        3 => moved(engine::reset(head, starts, durations, marks, kinds, amounts, places)),
+        4 => updated(engine::update(head, x, starts, durations, marks, replies, list, kinds, amounts, places)),
+        5 => moved(engine::seek(head, Share(x), starts, durations, marks, kinds, amounts, places)),
+        6 => moved(engine::seek_abs(head, Secs(x), starts, durations, marks, kinds, amounts, places)),
+        7 => set(head.set_time_scale(x)),
+        _ => unknown(head),
     }
 }
 
 // A call that is none leaves what plays.
-pub(crate) fn unknown(t: Track) -> Outcome
-    ensures { λ r. ⌜ r ≡ outcomeOf (silent badCall t) ⌝ }
+pub(crate) fn unknown(head: Playhead) -> Outcome
+    ensures { λ r. ⌜ (r .refusal ≡ badCall) × (r .listed ≡ 0) × (r .clock ≡ head .clock) ⌝ }
 {
+    let c = head.clock;
+    let clock = c.kept();
     Outcome {
         refusal: refusal::BAD_CALL,
         listed: 0,
-        track: t,
+        clock,
     }
 }
 
 // A call that refuses nothing left this.
-fn set(t: Track) -> Outcome
-    ensures { λ r. ⌜ r ≡ outcomeOf (silent accepted t) ⌝ }
+fn set(head: Playhead) -> Outcome
+    ensures { λ r. ⌜ (r .refusal ≡ accepted) × (r .listed ≡ 0) × (r .clock ≡ head .clock) ⌝ }
 {
+    let c = head.clock;
+    let clock = c.kept();
     Outcome {
         refusal: refusal::ACCEPTED,
         listed: 0,
-        track: t,
+        clock,
     }
 }
 
 // A call that lists nothing answered this.
-fn moved(m: TrackMoved) -> Outcome
-    ensures { λ r. ⌜ r ≡ record { refusal = m .refusal; listed = 0; track = m .track } ⌝ }
+fn moved(m: Moved) -> Outcome
+    ensures { λ r. ⌜ (r .refusal ≡ m .refusal) × (r .listed ≡ 0) × (r .clock ≡ m .clock) ⌝ }
 {
-    let track = m.track;
+    let c = m.clock;
+    let clock = c.kept();
     Outcome {
         refusal: m.refusal,
         listed: 0,
-        track,
+        clock,
     }
 }
 
-fn play(t: Track) -> Outcome
-    ensures { λ r. ⌜ r ≡ outcomeOf (trackStep t (Play room)) ⌝ }
+// An update answered this.
+fn updated(u: Updated) -> Outcome
+    ensures { λ r. ⌜ (r .refusal ≡ u .refusal) × (r .listed ≡ u .listed) × (r .clock ≡ u .clock) ⌝ }
 {
-    let mut kinds = kinds();
-    let mut amounts = floats();
-    let mut places = floats();
-    let m = t.play(&mut kinds, &mut amounts, &mut places);
-    moved(m)
-}
-
-fn reset(t: Track) -> Outcome
-    ensures { λ r. ⌜ r ≡ outcomeOf (trackStep t (Reset room)) ⌝ }
-{
-    let mut kinds = kinds();
-    let mut amounts = floats();
-    let mut places = floats();
-    let m = t.reset(&mut kinds, &mut amounts, &mut places);
-    moved(m)
-}
-
-fn seek(t: Track, x: f32) -> Outcome
-    ensures { λ r. ⌜ r ≡ outcomeOf (trackStep t (Seek x room)) ⌝ }
-{
-    let mut kinds = kinds();
-    let mut amounts = floats();
-    let mut places = floats();
-    let m = t.seek(Share(x), &mut kinds, &mut amounts, &mut places);
-    moved(m)
-}
-
-fn seek_abs(t: Track, x: f32) -> Outcome
-    ensures { λ r. ⌜ r ≡ outcomeOf (trackStep t (SeekAbs x room)) ⌝ }
-{
-    let mut kinds = kinds();
-    let mut amounts = floats();
-    let mut places = floats();
-    let m = t.seek_abs(Secs(x), &mut kinds, &mut amounts, &mut places);
-    moved(m)
-}
-
-fn update(t: Track, x: f32, list: &mut [u8; LIST]) -> Outcome
-    ensures { λ r. ⌜ Made (trackStep t (Update x replies listSize room)) r (now (list .entry)) (now (list .exit)) ⌝ }
-{
-    let replies = replies();
-    let mut kinds = kinds();
-    let mut amounts = floats();
-    let mut places = floats();
-    let m = t.update(x, &replies, list, &mut kinds, &mut amounts, &mut places);
-    let track = m.track;
+    let c = u.clock;
+    let clock = c.kept();
     Outcome {
-        refusal: m.refusal,
-        listed: m.listed,
-        track,
+        refusal: u.refusal,
+        listed: u.listed,
+        clock,
     }
-}
-
-// Room for the rows of every entry.
-fn kinds() -> [u8; MAX_ENTRIES]
-    ensures { λ r. ⌜ maxEntries ≡ length r ⌝ }
-{
-    [0u8; MAX_ENTRIES]
-}
-
-// Row slices of floats, with room for every entry.
-fn floats() -> [f32; MAX_ENTRIES]
-    ensures { λ r. ⌜ maxEntries ≡ length r ⌝ }
-{
-    [0.0; MAX_ENTRIES]
-}
-
-// "Leaves always reply 1".
-fn replies() -> [u8; MAX_ENTRIES]
-    ensures { λ r. ⌜ r ≡ replies ⌝ }
-{
-    [1u8; MAX_ENTRIES]
 }

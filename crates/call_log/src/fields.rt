@@ -10,13 +10,6 @@ ghost use Rattle.call_log.specs.Lines.{sheetWord, bitsField, Wrote};
 // The longest line: a number of 20 digits, the state, the bits, a refusal of 3 digits, 256 listed bytes of 3 digits, and the LF.
 pub const LINE: usize = 1_060;
 
-// A byte as a number.
-pub(crate) fn wide(byte: u8) -> usize
-    ensures { λ r. ⌜ (r ≡ byte) × (r < 256) ⌝ }
-{
-    byte as usize
-}
-
 // One byte.
 pub(crate) fn put_byte(line: &mut [u8], at: usize, b: u8) -> usize
     requires { ⌜ at < length (now line) ⌝ }

@@ -6,18 +6,20 @@ mod lines;
 use calls::LIST;
 use calls::Outcome;
 pub use fields::LINE;
-use fields::wide;
+use digits::wide_usize;
 use refusal::ACCEPTED;
 use refusal::SHEET_LENGTH;
+use steps::MAX_ENTRIES;
+use track::track::Playhead;
 use track::track::Track;
 ghost use mathlib.Core.Path.{_≡_};
 ghost use Prim.Native.Nat.{_+_, _<_, _≤_};
 ghost use lib.ListN.{length, take, drop};
-ghost use Rattle.digits.specs.Digits.{putAt};
 ghost use Rattle.sheet_format.specs.Words.{word};
 ghost use Rattle.call_log.specs.Lines.{Refused, shown, lineSize};
-ghost use Rattle.call_log.specs.Logs.{isCut, callSize, listSize, outcomeAt};
-ghost use Rattle.call_log.specs.Machine.{Made, sheetRoom, closedLog, openLine, openedBy, counted, nextBytes, loggedBy, lined, leastBytes, batchOf, batchedBy};
+ghost use Rattle.track.specs.Answers.{lentTrack, leftTrack};
+ghost use Rattle.call_log.specs.Logs.{isCut, callSize, outcomeAt};
+ghost use Rattle.call_log.specs.Machine.{Lends, Made, lentLog, leftLog, LogsTo, RunsTo, sheetRoom, closedLog, openLine, openedBy, counted, lined, leastBytes, batchOf, batchedBy};
 ghost use Rattle.call_log.specs.Claim.{Claim};
 
 // The longest sheet: 64 entries, with labels of 24 bytes.
@@ -47,19 +49,28 @@ pub struct Batched {
     pub log: Log,
 }
 
-// The answer of next: how long the line is, and the log.
-struct Logged {
+// The answer of run: the number of the last call, the playhead, how many bytes it used, and how long the lines are.
+struct Ran {
+    number: usize,
+    head: Playhead,
+    used: usize,
     len: usize,
-    log: Log,
 }
 
-// The u16 at a place.
+// The answer of next: how long the line is, its number, and the playhead.
+struct Logged {
+    len: usize,
+    number: usize,
+    head: Playhead,
+}
+
+// The u16 at an offset.
 fn half_at(s: &[u8], at: usize) -> usize
     requires { ⌜ at + 2 ≤ length (now s) ⌝ }
     ensures { λ r. ⌜ (r ≡ word 2 (drop at (now (s .entry)))) × (r < 65536) ⌝ }
 {
     let next = at + 1;
-    wide(s[at]) + wide(s[next]) * 256
+    wide_usize(s[at]) + wide_usize(s[next]) * 256
 }
 
 // How many bytes the sheet has after the two that say so. None are wanted of a sheet that is too long.
@@ -138,22 +149,69 @@ fn refuse(refusal: u8, line: &mut [u8; LINE]) -> Opened
 
 // Makes the calls that the bytes hold, one after the other, as long as room for a line is left, and writes their lines to the front.
 // Where the input ends behind the bytes, 1 to 4 that are left over are no call and have a line, too. A log whose sheet was refused
-// uses the bytes up.
+// uses the bytes up. What plays is laid out in columns once, and gathered after the last call.
 pub fn batch(log: Log, bytes: &[u8], ended: bool, out: &mut [u8]) -> Batched
     ensures { λ r. ⌜ r ≡ batchedBy (batchOf ended log (now (bytes .entry)) (length (now (out .entry)))) ⌝ }
     ensures { λ _. ⌜ now (out .exit) ≡ lined (batchOf ended log (now (bytes .entry)) (length (now (out .entry))) .text) (now (out .entry)) ⌝ }
 {
+    let before = log.track;
+    let mut starts = [0.0f32; MAX_ENTRIES];
+    let mut durations = [0.0f32; MAX_ENTRIES];
+    let mut marks = [false; MAX_ENTRIES];
+    let head = before.lay_out(&mut starts, &mut durations, &mut marks);
+    let ran = run(log.number, log.logging, head, &starts, &durations, &mut marks, bytes, ended, out);
+    let after = ran.head;
+    let mut track = before.gather(after, &starts, &durations, &marks);
+    track.count = before.count;
+    let log = Log {
+        number: ran.number,
+        logging: log.logging,
+        track,
+    };
+    Batched {
+        used: ran.used,
+        len: ran.len,
+        log,
+    }
+}
+
+// The calls of a batch, in place.
+fn run(
+    number: usize,
+    logging: bool,
+    head: Playhead,
+    starts: &[f32],
+    durations: &[f32],
+    marks: &mut [bool],
+    bytes: &[u8],
+    ended: bool,
+    out: &mut [u8],
+) -> Ran
+    ensures { λ r. ⌜ RunsTo (batchOf ended (lentLog number logging head starts durations marks) (now (bytes .entry)) (length (now (out .entry)))) r (leftLog (r .number) logging (r .head) starts durations marks) (now (out .entry)) (now (out .exit)) ⌝ }
+{
+    let replies = [1u8; MAX_ENTRIES];
+    let mut list = [0u8; LIST];
+    let mut kinds = [0u8; MAX_ENTRIES];
+    let mut amounts = [0.0f32; MAX_ENTRIES];
+    let mut places = [0.0f32; MAX_ENTRIES];
     let least = least_bytes(ended);
-    let mut log = log;
+    let mut number = number;
+    let mut head = head;
     let mut used = 0usize;
     let mut len = 0usize;
     while least <= bytes.len() - used && LINE <= out.len() - len {
-        let logged = next(log, &bytes[used..], out, len);
-        log = logged.log;
+        let logged = next(number, logging, head, starts, durations, marks, &replies, &mut list, &mut kinds, &mut amounts, &mut places, &bytes[used..], out, len);
+        number = logged.number;
+        head = logged.head;
         len += logged.len;
         used = behind(used, bytes);
     }
-    Batched { used, len, log }
+    Ran {
+        number,
+        head,
+        used,
+        len,
+    }
 }
 
 // How many bytes have to be there for a call.
@@ -163,7 +221,7 @@ fn least_bytes(ended: bool) -> usize
     if ended { 1 } else { CALL }
 }
 
-// The place behind the call at a place, or the end of the bytes.
+// The offset behind the call at an offset, or the end of the bytes.
 fn behind(at: usize, bytes: &[u8]) -> usize
     requires { ⌜ at ≤ length (now bytes) ⌝ }
     ensures { λ r. ⌜ r ≡ at + length (take callSize (drop at (now (bytes .entry)))) ⌝ }
@@ -175,48 +233,65 @@ fn behind(at: usize, bytes: &[u8]) -> usize
     }
 }
 
-// Makes the call at the front of what is left of the script, and writes its line at a place. Fewer bytes than a call has are no
+// Makes the call at the front of what is left of the script, and writes its line from an offset on. Fewer bytes than a call has are no
 // call, and none have no line; nor has a log whose sheet was refused.
-fn next(log: Log, rest: &[u8], out: &mut [u8], at: usize) -> Logged
-    requires { ⌜ at + lineSize ≤ length (now out) ⌝ }
-    ensures { λ r. ⌜ (r ≡ loggedBy log (now (rest .entry))) × (r .len ≤ lineSize) ⌝ }
-    ensures { λ _. ⌜ now (out .exit) ≡ putAt (nextBytes log (now (rest .entry))) at (now (out .entry)) ⌝ }
+fn next(
+    number: usize,
+    logging: bool,
+    head: Playhead,
+    starts: &[f32],
+    durations: &[f32],
+    marks: &mut [bool],
+    replies: &[u8],
+    list: &mut [u8],
+    kinds: &mut [u8],
+    amounts: &mut [f32],
+    places: &mut [f32],
+    rest: &[u8],
+    out: &mut [u8],
+    at: usize,
+) -> Logged
+    requires { ⌜ Lends (now replies) (now list) (now kinds) (now amounts) (now places) × (at + lineSize ≤ length (now out)) ⌝ }
+    ensures { λ r. ⌜ LogsTo (lentLog number logging head starts durations marks) (now (rest .entry)) r (leftLog (r .number) logging (r .head) starts durations marks) at (now (out .entry)) (now (out .exit)) ⌝ }
 {
-    if !log.logging {
-        return Logged { len: 0, log };
+    if !logging {
+        return Logged { len: 0, number, head };
     }
     if rest.len() == 0 {
-        return Logged { len: 0, log };
+        return Logged { len: 0, number, head };
     }
-    let mut list = empty_list();
-    let track = log.track;
-    let made = made_at(track, rest, &mut list);
-    let number = counted(log.number);
-    let after = made.track;
-    let end = lines::called(out, at, number, after, made.refusal, &list, made.listed);
-    let log = Log {
+    let made = made_at(head, rest, starts, durations, marks, replies, list, kinds, amounts, places);
+    let number = counted(number);
+    let clock = made.clock;
+    let end = lines::called(out, at, number, clock, made.refusal, list, made.listed);
+    let head = head.with_clock(clock);
+    Logged {
+        len: end - at,
         number,
-        logging: true,
-        track: after,
-    };
-    Logged { len: end - at, log }
-}
-
-// The list that an update is lent.
-fn empty_list() -> [u8; LIST]
-    ensures { λ r. ⌜ listSize ≡ length r ⌝ }
-{
-    [0u8; LIST]
+        head,
+    }
 }
 
 // The call at the front of the script.
-fn made_at(t: Track, rest: &[u8], list: &mut [u8; LIST]) -> Outcome
-    ensures { λ r. ⌜ Made (outcomeAt t (now (rest .entry))) r (now (list .entry)) (now (list .exit)) ⌝ }
+fn made_at(
+    head: Playhead,
+    rest: &[u8],
+    starts: &[f32],
+    durations: &[f32],
+    marks: &mut [bool],
+    replies: &[u8],
+    list: &mut [u8],
+    kinds: &mut [u8],
+    amounts: &mut [f32],
+    places: &mut [f32],
+) -> Outcome
+    requires { ⌜ Lends (now replies) (now list) (now kinds) (now amounts) (now places) ⌝ }
+    ensures { λ r. ⌜ Made (outcomeAt (lentTrack head starts durations marks) (now (rest .entry))) r (leftTrack head (r .clock) starts durations marks) (now (list .entry)) (now (list .exit)) ⌝ }
 {
     if rest.len() < CALL {
-        return calls::unknown(t);
+        return calls::unknown(head);
     }
-    calls::make(t, rest[0], float32::from_bits(bits_of(rest)), list)
+    calls::make(head, rest[0], float32::from_bits(bits_of(rest)), starts, durations, marks, replies, list, kinds, amounts, places)
 }
 
 // The bits of a call's f32.

@@ -5,16 +5,17 @@ use crate::fields::put_decimal;
 use crate::fields::put_letter;
 use crate::fields::put_number;
 use crate::fields::put_sheet;
-use crate::fields::wide;
-use clock::TimelineState;
+use clock::Clock;
+use digits::wide_usize;
 use track::track::Track;
 ghost use mathlib.Core.Path.{_≡_};
 ghost use mathlib.Core.List.{[], map};
 ghost use Prim.Native.Nat.{_+_, _*_, _<_, _≤_};
 ghost use lib.ListN.{length, take};
 ghost use Rattle.float32.specs.Helpers.{toBits};
+ghost use Rattle.clock.specs.Clocks.{letterOf};
 ghost use Rattle.digits.specs.Digits.{decimal};
-ghost use Rattle.call_log.specs.Lines.{Refused, Called, letterOf, withFields, shown, lineSize, Wrote};
+ghost use Rattle.call_log.specs.Lines.{Refused, Called, withFields, shown, lineSize, Wrote};
 ghost use Rattle.call_log.specs.Logs.{sheetLine, listSize};
 
 // The line of a sheet that is refused.
@@ -40,18 +41,6 @@ pub(crate) fn accepted(line: &mut [u8], track: Track) -> usize
     put_byte(line, at, b'\n')
 }
 
-// The letter of a state.
-fn state_letter(state: TimelineState) -> u8
-    ensures { λ r. ⌜ r ≡ letterOf state ⌝ }
-{
-    match state {
-        TimelineState::Idle => b'I',
-        TimelineState::Playing => b'P',
-        TimelineState::Paused => b'H',
-        TimelineState::Completed => b'C',
-    }
-}
-
 // The first n numbers of the list.
 fn put_list(line: &mut [u8], start: usize, list: &[u8], n: usize) -> usize
     requires { ⌜ (n ≤ length (now list)) × (start + 4 * n ≤ length (now line)) ⌝ }
@@ -60,30 +49,29 @@ fn put_list(line: &mut [u8], start: usize, list: &[u8], n: usize) -> usize
     let mut at = start;
     let mut i = 0usize;
     while i < n {
-        at = put_number(line, at, wide(list[i]));
+        at = put_number(line, at, wide_usize(list[i]));
         i += 1;
     }
     at
 }
 
-// The line of a call, from a place on.
+// The line of a call, from an offset on.
 pub(crate) fn called(
     line: &mut [u8],
     start: usize,
     number: usize,
-    track: Track,
+    clock: Clock,
     refusal: u8,
     list: &[u8],
     listed: usize,
 ) -> usize
     requires { ⌜ (listed ≤ listSize) × (listed ≤ length (now list)) × (start + lineSize ≤ length (now line)) ⌝ }
-    ensures { λ r. ⌜ Wrote (shown (Called number (letterOf (track .clock .state)) (toBits (track .clock .elapsed)) refusal (take listed (now (list .entry))))) start (now (line .entry)) (now (line .exit)) r × (r ≤ start + lineSize) ⌝ }
+    ensures { λ r. ⌜ Wrote (shown (Called number (letterOf (clock .state)) (toBits (clock .elapsed)) refusal (take listed (now (list .entry))))) start (now (line .entry)) (now (line .exit)) r × (r ≤ start + lineSize) ⌝ }
 {
-    let clock = track.clock;
     let state = clock.state;
     let elapsed = clock.elapsed;
     let at = put_decimal(line, start, number);
-    let at = put_letter(line, at, state_letter(state));
+    let at = put_letter(line, at, clock::letter(state));
     let at = put_bits(line, at, elapsed);
     let at = put_number(line, at, refusal as usize);
     let at = put_list(line, at, list, listed);

@@ -21,15 +21,15 @@ abbrev μ-loop : tie.MeasureT-loop
 loop-holds : tie.Need-loop-holds Inv-loop μ-loop
 loop-holds c = (omega arith, omega arith, refl, omega arith, omega arith, wrote-none (c .before .before .args .start) (c .before .before .args .line .now))
 
-shared-slice-read-wide : tie.Need-shared-slice-read-wide Inv-loop μ-loop
-shared-slice-read-wide c = omega arith
+shared-slice-read-wide-usize : tie.Need-shared-slice-read-wide-usize Inv-loop μ-loop
+shared-slice-read-wide-usize c = omega arith
 
-wide-requires : tie.Need-wide-requires Inv-loop μ-loop
-wide-requires c κs = search needs
+wide-usize-requires : tie.Need-wide-usize-requires Inv-loop μ-loop
+wide-usize-requires c κs = search needs
 
 put-number-requires : tie.Need-put-number-requires Inv-loop μ-loop
 put-number-requires c κs =
-    let few = byte-digits (c .wide .result) (c .wide .ensures .1) in
+    let few = byte-digits (c .wide-usize .result) (c .wide-usize .ensures .1) in
     omega arith
 
 add-i : tie.Need-add-i Inv-loop μ-loop
@@ -40,11 +40,11 @@ loop-less c = omega arith
 
 loop-again : tie.Need-loop-again Inv-loop μ-loop
 loop-again c =
-    let few = byte-digits (c .before .before .before .wide .result) (c .before .before .before .wide .ensures .1) in
+    let few = byte-digits (c .before .before .before .wide-usize .result) (c .before .before .before .wide-usize .ensures .1) in
     let one = c .before .before .put-number .ensures in
     let inv = c .before .before .before .before .before .before .before .loop .inv in
     let kept = wrote-length one (omega arith) in
-    (omega arith, inv .1, omega arith, omega arith, inv .4, rw (fields-more (c .before .before .before .before .before .before .before .before .before .before .args .list .now) (c .before .before .before .before .before .before .before .loop .i) (omega arith)) (wrote-then (inv .5) (rw (c .before .before .before .wide .ensures .0) at one) (omega arith)))
+    (omega arith, inv .1, omega arith, omega arith, inv .4, rw (fields-more (c .before .before .before .before .before .before .before .before .before .before .args .list .now) (c .before .before .before .before .before .before .before .loop .i) (omega arith)) (wrote-then (inv .5) (rw (c .before .before .before .wide-usize .ensures .0) at one) (omega arith)))
 
 same-length : tie.Need-same-length Inv-loop μ-loop
 same-length c = c .before .loop .inv .2
@@ -61,8 +61,8 @@ put-list-spec =
     Inv-loop
     μ-loop
     loop-holds
-    shared-slice-read-wide
-    wide-requires
+    shared-slice-read-wide-usize
+    wide-usize-requires
     put-number-requires
     add-i
     loop-less
