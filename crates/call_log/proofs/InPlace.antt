@@ -24,7 +24,7 @@ use Rattle.call_log.specs.declared.Log.{Log}
 use Rattle.call_log.specs.declared.Ran.{Ran}
 use Rattle.call_log.specs.Lines.{shownAll}
 use Rattle.call_log.specs.Logs.{callSize, outcome, outcomeAt, callLine}
-use Rattle.call_log.specs.Machine.{counted, isOver, nextLines, nextLog, nextBytes, isNext, Calls, noCalls, callThen, batchFrom, batchOf, batchedBy, lined, RunsTo}
+use Rattle.call_log.specs.Machine.{counted, isOver, nextLines, nextLog, nextBytes, isNext, Calls, batchFrom, batchOf, batchedBy, lined, RunsTo}
 
 -- a track is its live entries, put back
 pub own-back : (k : Track) → putBack k (trimmed k) ≡ k

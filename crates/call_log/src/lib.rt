@@ -5,8 +5,8 @@ mod lines;
 
 use calls::LIST;
 use calls::Outcome;
-pub use fields::LINE;
 use digits::wide_usize;
+pub use fields::LINE;
 use refusal::ACCEPTED;
 use refusal::SHEET_LENGTH;
 use steps::MAX_ENTRIES;
@@ -159,7 +159,17 @@ pub fn batch(log: Log, bytes: &[u8], ended: bool, out: &mut [u8]) -> Batched
     let mut durations = [0.0f32; MAX_ENTRIES];
     let mut marks = [false; MAX_ENTRIES];
     let head = before.lay_out(&mut starts, &mut durations, &mut marks);
-    let ran = run(log.number, log.logging, head, &starts, &durations, &mut marks, bytes, ended, out);
+    let ran = run(
+        log.number,
+        log.logging,
+        head,
+        &starts,
+        &durations,
+        &mut marks,
+        bytes,
+        ended,
+        out,
+    );
     let after = ran.head;
     let mut track = before.gather(after, &starts, &durations, &marks);
     track.count = before.count;
@@ -200,7 +210,22 @@ fn run(
     let mut used = 0usize;
     let mut len = 0usize;
     while least <= bytes.len() - used && LINE <= out.len() - len {
-        let logged = next(number, logging, head, starts, durations, marks, &replies, &mut list, &mut kinds, &mut amounts, &mut places, &bytes[used..], out, len);
+        let logged = next(
+            number,
+            logging,
+            head,
+            starts,
+            durations,
+            marks,
+            &replies,
+            &mut list,
+            &mut kinds,
+            &mut amounts,
+            &mut places,
+            &bytes[used..],
+            out,
+            len,
+        );
         number = logged.number;
         head = logged.head;
         len += logged.len;
@@ -255,12 +280,31 @@ fn next(
     ensures { λ r. ⌜ LogsTo (lentLog number logging head starts durations marks) (now (rest .entry)) r (leftLog (r .number) logging (r .head) starts durations marks) at (now (out .entry)) (now (out .exit)) ⌝ }
 {
     if !logging {
-        return Logged { len: 0, number, head };
+        return Logged {
+            len: 0,
+            number,
+            head,
+        };
     }
     if rest.len() == 0 {
-        return Logged { len: 0, number, head };
+        return Logged {
+            len: 0,
+            number,
+            head,
+        };
     }
-    let made = made_at(head, rest, starts, durations, marks, replies, list, kinds, amounts, places);
+    let made = made_at(
+        head,
+        rest,
+        starts,
+        durations,
+        marks,
+        replies,
+        list,
+        kinds,
+        amounts,
+        places,
+    );
     let number = counted(number);
     let clock = made.clock;
     let end = lines::called(out, at, number, clock, made.refusal, list, made.listed);
@@ -291,7 +335,19 @@ fn made_at(
     if rest.len() < CALL {
         return calls::unknown(head);
     }
-    calls::make(head, rest[0], float32::from_bits(bits_of(rest)), starts, durations, marks, replies, list, kinds, amounts, places)
+    calls::make(
+        head,
+        rest[0],
+        float32::from_bits(bits_of(rest)),
+        starts,
+        durations,
+        marks,
+        replies,
+        list,
+        kinds,
+        amounts,
+        places,
+    )
 }
 
 // The bits of a call's f32.

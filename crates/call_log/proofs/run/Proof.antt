@@ -68,7 +68,7 @@ next-requires c κs =
     (record { ones = refl; list = loop .inv .5; kinds = loop .inv .6; amounts = loop .inv .7; places = loop .inv .8 }, room)
 
 add-len : tie.Need-add-len Inv-loop μ-loop
-add-len c = 
+add-len c =
     let loop = c .before .before .before .before .before .before .before .before .before .before .before .before .before .before .before .before .before .before .before .before .before .loop in
     let few = c .before .before .before .before .before .before .before .before .before .before .next .ensures .few in
     let room : lineSize ≤ length (loop .out) - loop .len = leb-true _ _ (c .before .before .before .before .before .before .before .before .before .before .before .before .before .before .before .before .before .before .before .if1 .taken) in
