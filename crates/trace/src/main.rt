@@ -1,7 +1,8 @@
 // Runs scripts of calls on timelines and prints what each call leaves, so that it can be compared with what the Rust leaves.
 //
-// Standard input is as case_io says. Its records are scripts of calls, each a call byte (trace_calls, introspect.rt, builders.rt) and
-// its operands (trace_read). Each script starts from the empty timeline. For each call a line is written, and then lines of what it
+// Standard input is as case_io says. Its records are scripts of calls, each a call byte (trace_moves, trace_calls, introspect.rt,
+// builders.rt) and its operands (trace_read). What moves or steers is made in place, too (trace_moves): where that leaves another
+// answer, the line `differs` is written. Each script starts from the empty timeline. For each call a line is written, and then lines of what it
 // sent, listed or answered (trace_lines). A call whose operands run past the script or are not allowed, and an unknown one, is not
 // made: the line `cut` is written, and the rest of the script is passed over.
 mod builders;
@@ -11,8 +12,10 @@ use case_io::input;
 use case_io::text::BUFFER;
 use case_io::text::Sink;
 use trace_calls::calls;
-use trace_calls::run::Run;
+use trace_moves::moves;
+use trace_moves::run::Run;
 use trace_read::Cursor;
+use trace_read::ROWS;
 
 // The longest script.
 const SCRIPT: usize = 65_536;
@@ -49,10 +52,21 @@ fn next_script(script: &mut [u8], buffer: &mut [u8; BUFFER], text: bool, number:
 
 // The calls of a script, of which the input may have ended too early.
 fn run(script: &[u8], buffer: &mut [u8; BUFFER], sink: Sink, short: bool) -> Sink {
-    let mut r = Run::new(sink);
+    let mut starts = [0.0f32; ROWS];
+    let mut durations = [0.0f32; ROWS];
+    let mut marks = [false; ROWS];
+    let mut r = Run::new(sink, &mut starts, &mut durations, &mut marks);
     let mut i = 0;
     while i < script.len() && more(r.cursor, script.len()) {
-        r = next(script, buffer, i + 1, r);
+        r = next(
+            script,
+            buffer,
+            &mut starts,
+            &mut durations,
+            &mut marks,
+            i + 1,
+            r,
+        );
         i += 1;
     }
     let c = r.cursor;
@@ -68,15 +82,41 @@ fn more(c: Cursor, len: usize) -> bool {
     c.whole && c.at < len
 }
 
-// Makes the next call.
-fn next(script: &[u8], buffer: &mut [u8; BUFFER], number: usize, run: Run) -> Run {
+// Makes the next call: where it moves or steers what plays, by value and in place; another one by value, and the columns are laid
+// out anew where it left another timeline.
+fn next(
+    script: &[u8],
+    buffer: &mut [u8; BUFFER],
+    starts: &mut [f32; ROWS],
+    durations: &mut [f32; ROWS],
+    marks: &mut [bool; ROWS],
+    number: usize,
+    run: Run,
+) -> Run {
     let cursor = run.cursor;
     let read = cursor.byte(script);
     let byte = read.value;
     let r = run.at_call(number, byte, read);
     match byte {
+        0 | 3 | 4 | 5 | 6 | 11 => moves::make(script, buffer, &*starts, &*durations, marks, r),
+        1 | 2 | 7 | 10 | 15 => calls::make(script, buffer, r),
         12 => introspect::timeline(buffer, r),
         13 => introspect::group(buffer, r),
+        14 => {
+            let left = moves::make(script, buffer, &*starts, &*durations, marks, r);
+            left.laid_out(starts, durations, marks)
+        }
+        _ => {
+            let left = build(script, buffer, r);
+            left.laid_out(starts, durations, marks)
+        }
+    }
+}
+
+// Calls that add entries or build a timeline; an unknown one is cut.
+fn build(script: &[u8], buffer: &mut [u8; BUFFER], r: Run) -> Run {
+    let byte = r.byte;
+    match byte {
         16 | 17 | 18 | 19 => builders::building(script, buffer, r),
         20 => builders::sequencing(script, buffer, r),
         _ => calls::make(script, buffer, r),

@@ -1,3 +1,2 @@
-// The calls of a script on a timeline (trace).
+// The calls of a script that steer a timeline or add to it (trace).
 pub mod calls;
-pub mod run;

@@ -1,9 +1,9 @@
--- `trace_calls::calls::updated` is safe: each slice has the places that are lent.
+-- `trace_moves::moves::updated` is safe: each slice has the places that are lent.
 use borrow.Author.Needs.{needs}
 use native.Mathlib.Omega.{arith}
 use Rattle.case_io.proofs.Room.{front}
-use Rattle.trace_calls.proofs.calls.updated.Statement.{statement}
-use Rattle.trace_calls.proofs.calls.updated.Tie as tie
+use Rattle.trace_moves.proofs.moves.updated.Statement.{statement}
+use Rattle.trace_moves.proofs.moves.updated.Tie as tie
 
 fresh-bytes-requires : tie.Need-fresh-bytes-requires
 fresh-bytes-requires c κs = search needs
@@ -56,8 +56,14 @@ rows-requires c κs = tt
 update-requires-2 : tie.Need-update-requires-2
 update-requires-2 c κs = tt
 
-after-requires : tie.Need-after-requires
-after-requires c κs = search needs
+updated-requires : tie.Need-updated-requires
+updated-requires c κs = c .before .before .before .before .before .before .before .before .before .before .before .before .before .before .before .before .before .before .before .before .before .before .before .before .before .before .before .before .before .before .before .before .before .pre
+
+differs-requires : tie.Need-differs-requires
+differs-requires c κs = tt
+
+after-both-requires : tie.Need-after-both-requires
+after-both-requires c κs = search needs
 
 returns : tie.Need-returns
 returns c = search needs
@@ -83,5 +89,7 @@ updated-spec =
     line-requires
     rows-requires
     update-requires-2
-    after-requires
+    updated-requires
+    differs-requires
+    after-both-requires
     returns)

@@ -1,9 +1,9 @@
--- `trace_calls::calls::moved` is safe: each slice has the places that are lent.
+-- `trace_moves::moves::moved` is safe: each slice has the places that are lent.
 use native.Mathlib.Omega.{arith}
 use borrow.Author.Needs.{needs}
 use Rattle.case_io.proofs.Room.{front}
-use Rattle.trace_calls.proofs.calls.moved.Statement.{statement}
-use Rattle.trace_calls.proofs.calls.moved.Tie as tie
+use Rattle.trace_moves.proofs.moves.moved.Statement.{statement}
+use Rattle.trace_moves.proofs.moves.moved.Tie as tie
 
 fresh-bytes-requires : tie.Need-fresh-bytes-requires
 fresh-bytes-requires c κs = search needs
@@ -47,6 +47,18 @@ after-requires c κs = search needs
 returns : tie.Need-returns
 returns c = search needs
 
+moved-requires : tie.Need-moved-requires
+moved-requires c κs = c .before .before .before .before .before .before .before .before .before .before .before .before .before .before .before .before .before .before .before .before .before .before .before .pre
+
+differs-requires : tie.Need-differs-requires
+differs-requires c κs = search needs
+
+after-both-requires : tie.Need-after-both-requires
+after-both-requires c κs = search needs
+
+returns-2 : tie.Need-returns-2
+returns-2 c = search needs
+
 pub moved-spec : {M : Type 1} → statement M
 moved-spec =
     tie.close
@@ -64,4 +76,8 @@ moved-spec =
     line-requires
     rows-requires
     after-requires
-    returns)
+    returns
+    moved-requires
+    differs-requires
+    after-both-requires
+    returns-2)
