@@ -1,16 +1,16 @@
 // The calls that move what plays: the operands are read, the call is made by value and in place, and its lines are printed.
-use crate::fresh::AMOUNT;
-use crate::fresh::PLACE;
-use crate::fresh::fresh_bytes;
-use crate::fresh::fresh_floats;
-use crate::fresh::fresh_list;
-use crate::in_place;
-use crate::in_place::differs;
 use crate::run::Run;
 use case_io::text::BUFFER;
 use group::group::AnimationGroup;
 use timeline::timeline::Moved;
 use timeline::timeline::Timeline;
+use trace_places::fresh::AMOUNT;
+use trace_places::fresh::PLACE;
+use trace_places::fresh::fresh_bytes;
+use trace_places::fresh::fresh_floats;
+use trace_places::fresh::fresh_list;
+use trace_places::in_place;
+use trace_places::in_place::differs;
 use trace_read::ROWS;
 use trace_read::Room;
 use trace_read::Update;

@@ -7,23 +7,23 @@ ghost use lib.ListN.{length};
 // What stands in the lent slices before each call: the bytes, the amounts (bits 4640e400) and the places (c640e400).
 const FRESH: u8 = 238;
 
-pub(crate) const AMOUNT: f32 = 12345.0;
+pub const AMOUNT: f32 = 12345.0;
 
-pub(crate) const PLACE: f32 = -12345.0;
+pub const PLACE: f32 = -12345.0;
 
-pub(crate) fn fresh_bytes() -> [u8; ROWS]
+pub fn fresh_bytes() -> [u8; ROWS]
     ensures { λ r. ⌜ 300 ≡ length r ⌝ }
 {
     [FRESH; ROWS]
 }
 
-pub(crate) fn fresh_floats(x: f32) -> [f32; ROWS]
+pub fn fresh_floats(x: f32) -> [f32; ROWS]
     ensures { λ r. ⌜ 300 ≡ length r ⌝ }
 {
     [x; ROWS]
 }
 
-pub(crate) fn fresh_list() -> [u8; LIST]
+pub fn fresh_list() -> [u8; LIST]
     ensures { λ r. ⌜ 1000 ≡ length r ⌝ }
 {
     [FRESH; LIST]

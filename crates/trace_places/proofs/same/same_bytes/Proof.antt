@@ -1,9 +1,9 @@
--- `trace_moves::same::same_bytes` is safe and ends. The measure is the bytes that are left.
+-- `trace_places::same::same_bytes` is safe and ends. The measure is the bytes that are left.
 use Prim.Native.Nat.{_≤_, _-_}
 use native.Mathlib.Omega.{arith}
 use lib.ListN.{length}
-use Rattle.trace_moves.proofs.same.same_bytes.Statement.{statement}
-use Rattle.trace_moves.proofs.same.same_bytes.Tie as tie
+use Rattle.trace_places.proofs.same.same_bytes.Statement.{statement}
+use Rattle.trace_places.proofs.same.same_bytes.Tie as tie
 
 abbrev Inv-loop : tie.InvT-loop
 Inv-loop a b n same₀ i₀ same i = (i ≤ n) × (n ≤ length a) × (n ≤ length b)

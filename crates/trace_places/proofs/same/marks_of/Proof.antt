@@ -1,8 +1,8 @@
--- `trace_moves::same::marks_of` is safe and ends. The measure is the entries that are left.
+-- `trace_places::same::marks_of` is safe and ends. The measure is the entries that are left.
 use Prim.Native.Nat.{_≤_, _-_}
 use native.Mathlib.Omega.{arith}
-use Rattle.trace_moves.proofs.same.marks_of.Statement.{statement}
-use Rattle.trace_moves.proofs.same.marks_of.Tie as tie
+use Rattle.trace_places.proofs.same.marks_of.Statement.{statement}
+use Rattle.trace_places.proofs.same.marks_of.Tie as tie
 
 abbrev Inv-loop : tie.InvT-loop
 Inv-loop n marks entries same₀ i₀ same i = (i ≤ n) × (n ≤ 64)

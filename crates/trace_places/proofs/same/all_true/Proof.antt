@@ -1,8 +1,8 @@
--- `trace_moves::same::all_true` is safe and ends. The measure is the places that are left.
+-- `trace_places::same::all_true` is safe and ends. The measure is the places that are left.
 use Prim.Native.Nat.{_≤_, _-_}
 use native.Mathlib.Omega.{arith}
-use Rattle.trace_moves.proofs.same.all_true.Statement.{statement}
-use Rattle.trace_moves.proofs.same.all_true.Tie as tie
+use Rattle.trace_places.proofs.same.all_true.Statement.{statement}
+use Rattle.trace_places.proofs.same.all_true.Tie as tie
 
 abbrev Inv-loop : tie.InvT-loop
 Inv-loop from marks all₀ i₀ all i = i ≤ 300

@@ -27,7 +27,7 @@ use track::track::Share;
 ghost use Prim.Native.Nat.{_≤_};
 
 // What a call in place leaves, and whether the call by value left the same.
-pub(crate) struct Followed {
+pub struct Followed {
     pub head: Playhead,
     pub same: bool,
 }
@@ -47,7 +47,7 @@ pub fn same_clock(head: Playhead, t: Timeline) -> bool {
 }
 
 // Calls 0, 3, 5, 6 and 11, which by value answered this and left these rows.
-pub(crate) fn moved(
+pub fn moved(
     byte: u32,
     head: Playhead,
     to: f32,
@@ -161,7 +161,7 @@ fn preview(
 }
 
 // Call 4, which by value answered this and left these rows and this list.
-pub(crate) fn updated(
+pub fn updated(
     head: Playhead,
     u: Update,
     replies: &[u8],

@@ -1,8 +1,8 @@
--- `trace_moves::same::same_floats` is safe and ends. The measure is the places that are left.
+-- `trace_places::same::same_floats` is safe and ends. The measure is the places that are left.
 use Prim.Native.Nat.{_≤_, _-_}
 use native.Mathlib.Omega.{arith}
-use Rattle.trace_moves.proofs.same.same_floats.Statement.{statement}
-use Rattle.trace_moves.proofs.same.same_floats.Tie as tie
+use Rattle.trace_places.proofs.same.same_floats.Statement.{statement}
+use Rattle.trace_places.proofs.same.same_floats.Tie as tie
 
 abbrev Inv-loop : tie.InvT-loop
 Inv-loop a b same₀ i₀ same i = i ≤ 300
