@@ -58,16 +58,16 @@ fn run(script: &[u8], buffer: &mut [u8; BUFFER], sink: Sink, short: bool) -> Sin
     let mut r = Run::new(sink, &mut starts, &mut durations, &mut marks);
     let mut i = 0;
     while i < script.len() && more(r.cursor, script.len()) {
+        i += 1;
         r = next(
             script,
             buffer,
             &mut starts,
             &mut durations,
             &mut marks,
-            i + 1,
+            i,
             r,
         );
-        i += 1;
     }
     let c = r.cursor;
     let s = r.sink;

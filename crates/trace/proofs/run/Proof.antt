@@ -6,10 +6,10 @@ use Rattle.trace.proofs.run.Statement.{statement}
 use Rattle.trace.proofs.run.Tie as tie
 
 abbrev Inv-loop : tie.InvT-loop
-Inv-loop script buffer₀ short r₀ i₀ t9 buffer r i = i ≤ length script
+Inv-loop script buffer₀ short starts₀ durations₀ marks₀ r₀ i₀ t12 buffer starts durations marks r i = i ≤ length script
 
 abbrev μ-loop : tie.MeasureT-loop
-μ-loop script buffer₀ short r₀ i₀ t9 buffer r i = length script - i
+μ-loop script buffer₀ short starts₀ durations₀ marks₀ r₀ i₀ t12 buffer starts durations marks r i = length script - i
 
 new-requires : tie.Need-new-requires Inv-loop μ-loop
 new-requires c κs = tt
@@ -20,14 +20,11 @@ loop-holds c = omega arith
 more-requires : tie.Need-more-requires Inv-loop μ-loop
 more-requires c κs = tt
 
-add-next : tie.Need-add-next Inv-loop μ-loop
-add-next c = omega arith
+add-i : tie.Need-add-i Inv-loop μ-loop
+add-i c = omega arith
 
 next-requires : tie.Need-next-requires Inv-loop μ-loop
 next-requires c κs = tt
-
-add-i : tie.Need-add-i Inv-loop μ-loop
-add-i c = omega arith
 
 loop-less : tie.Need-loop-less Inv-loop μ-loop
 loop-less c = omega arith
@@ -56,9 +53,8 @@ run-spec =
     new-requires
     loop-holds
     more-requires
-    add-next
-    next-requires
     add-i
+    next-requires
     loop-less
     loop-again
     slice-aggregate-bytes
