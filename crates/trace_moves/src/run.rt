@@ -6,8 +6,11 @@ use trace_read::Cursor;
 use trace_read::ROWS;
 use track::track::Playhead;
 
-// What stands in the columns behind the entries: no call may look at it.
-const SPARE: f32 = -12345.0;
+// What stands in the columns behind the entries: no call may look at it. Such an entry would be done, begin before 0 and end late,
+// so that it would show in the base.
+const SPARE_START: f32 = -12345.0;
+
+const SPARE_DURATION: f32 = 1.0e30;
 
 // A script at a call: the call's number and byte, where to read on, and what the calls before it left: the timeline by value, and
 // the playhead of the columns in place.
@@ -121,8 +124,8 @@ fn lay_out(
 fn spoil(starts: &mut [f32; ROWS], durations: &mut [f32; ROWS], marks: &mut [bool; ROWS]) {
     let mut i = 0;
     while i < ROWS {
-        starts[i] = SPARE;
-        durations[i] = SPARE;
+        starts[i] = SPARE_START;
+        durations[i] = SPARE_DURATION;
         marks[i] = true;
         i += 1;
     }
