@@ -1,5 +1,5 @@
 // The jobs: 0 and 1 update in Once, 2 in Forever, 3 in PingPong; 4 and 5 seek to seconds, 6 to shares; 7 adds entries; 8 makes the
-// longest walk that is known (walk/specs/Prompt.antt).
+// longest walk that is known (completions/specs/Prompt.antt).
 use timeline::timeline::At;
 use timeline::timeline::Timeline;
 use tween::Loop;

@@ -151,7 +151,7 @@ fn count_cycle(n: usize, starts: &[f32], durations: &[f32], w: Walk, start: f32)
     k
 }
 
-// Writes their numbers from the place at on, and says where the next one goes.
+// Writes their numbers from `at` on, and says where the next one goes.
 fn write_cycle(
     n: usize,
     starts: &[f32],

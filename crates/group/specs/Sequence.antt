@@ -36,9 +36,9 @@ thenBy s a duration =
 
 -- what each call leaves and answers: an entry is added at `At::Absolute(self.cursor)`
 unfoldable pub sequenceStep : Sequence → SequenceCall → Sequenced
-sequenceStep s (Then name duration) = thenBy s (addedBy (step (s .inner) (Add name (Absolute (s .cursor)) duration))) duration
-sequenceStep s (ThenFor name duration) =
-    thenBy s (addedBy (step (s .inner) (AddBoxed name (Absolute (s .cursor)) (maxF duration zeroF)))) duration
+sequenceStep s (Then label duration) = thenBy s (addedBy (step (s .inner) (Add label (Absolute (s .cursor)) duration))) duration
+sequenceStep s (ThenFor label duration) =
+    thenBy s (addedBy (step (s .inner) (AddBoxed label (Absolute (s .cursor)) (maxF duration zeroF)))) duration
 sequenceStep s (Gap seconds) =
     record { refusal = accepted; sequence = record { inner = s .inner; cursor = cursorAfter (s .cursor) seconds } }
 

@@ -38,9 +38,9 @@ isAccepted t call = eqb (step t call .refusal) accepted
 
 -- the calls that add an entry, and `looping`
 abbrev pub builds : Call → Bool
-builds (Add name at duration) = true
-builds (AddBoxed name at duration) = true
-builds (AddAtLabel name target duration) = true
+builds (Add label at duration) = true
+builds (AddBoxed label at duration) = true
+builds (AddAtLabel label target duration) = true
 builds (On (Looping mode)) = true
 builds (On (SetTimeScale scale)) = false
 builds (On (Play room)) = false
@@ -82,9 +82,9 @@ pub record OwnBuilt (calls : List Call) (t : Timeline) : Type 0 where
 
 -- an accepted seek of either kind, or an accepted update while Playing in a mode other than Once
 abbrev pub notes : Timeline → Call → Bool
-notes t (Add name at duration) = false
-notes t (AddBoxed name at duration) = false
-notes t (AddAtLabel name target duration) = false
+notes t (Add label at duration) = false
+notes t (AddBoxed label at duration) = false
+notes t (AddAtLabel label target duration) = false
 notes t (On (Looping mode)) = false
 notes t (On (SetTimeScale scale)) = false
 notes t (On (Play room)) = false

@@ -58,7 +58,7 @@ StandsWhole t = (head : Playhead) (starts durations : Lent Float) (marks : Lent 
 pub record PlayedInPlace (t : Timeline) (calls : List TrackCall) : Type 0 where
   -- in the columns stand the live entries of the timeline that the calls make by value, with its clock and its mode
   pub columns : inColumns t calls ≡ trimmed (byValue t calls .track)
-  -- gathered, what stands there is that timeline, to the last place
+  -- gathered, what stands there is that timeline, to the last slot
   pub back : gathered t (inColumns t calls) ≡ byValue t calls
   -- one call more refuses, sends, lists, answers and leaves what it does on that timeline
   pub answers : (call : TrackCall) → inPlace t calls call ≡ step (byValue t calls) (On call)

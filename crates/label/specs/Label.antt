@@ -10,13 +10,13 @@ use Rattle.label.specs.declared.Found.the-variants.{At, Nothing}
 
 -- whether the label that was looked for was found
 abbrev pub isFound : Found → Bool
-isFound (At k) = true
+isFound (At i) = true
 isFound Nothing = false
 
--- the number of the label found, 0 where nothing was found
-abbrev pub placeOf : Found → ℕ
-placeOf (At k) = k
-placeOf Nothing = 0
+-- the number of the entry that has it, 0 where nothing was found
+abbrev pub entryFound : Found → ℕ
+entryFound (At i) = i
+entryFound Nothing = 0
 
 -- "a label has 0 to 24 bytes of any content"
 abbrev pub maxLabel : ℕ

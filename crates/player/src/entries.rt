@@ -105,7 +105,7 @@ pub(crate) fn outnumber(
     room < count_done(n, prev, next, starts, durations, marks, replies)
 }
 
-// Marks the entry i, and lists it at the place at, if it is newly done; says where the next one goes. Most marks stay.
+// Marks the entry i, and lists it at `at`, if it is newly done; says where the next one goes. Most marks stay.
 fn note(marks: &mut [bool], list: &mut [u8], at: usize, i: usize, was: bool, done: bool) -> usize
     requires { ⌜ (i < mostEntries) × (i < length (now marks)) × (getD (now marks) i false ≡ was) × (at + length (keep (not was && done) i []) ≤ length (now list)) ⌝ }
     ensures { λ r. ⌜ (r ≡ at + length (keep (not was && done) i [])) × (now (list .exit) ≡ sets (now (list .entry)) at (keep (not was && done) i [])) × (now (marks .exit) ≡ set (now (marks .entry)) i done) ⌝ }

@@ -1,6 +1,6 @@
 -- Where an entry starts, and a timeline with one entry more. Definitions only.
 use Prim.Native.Nat.{ℕ, _+_}
-use mathlib.Core.Bool.{false}
+use mathlib.Core.Bool.{false, cond}
 use mathlib.Core.List.{List, []}
 use lib.ListN.{take, getD, set, replicate}
 use lib.Ieee.{Float, binary32, add}
@@ -9,15 +9,14 @@ use Rattle.steps.specs.declared.Entry.{Entry}
 use Rattle.steps.specs.Times.{maxEntries}
 use Rattle.label.specs.declared.Label.{Label}
 use Rattle.label.specs.declared.Found.{Found}
-use Rattle.label.specs.declared.Found.the-variants.{At as FoundAt, Nothing}
-use Rattle.label.specs.Label.{withText, labelOf, firstWith, firstLike}
+use Rattle.label.specs.Label.{isFound, entryFound, withText, labelOf, firstWith, firstLike}
 use Rattle.track.specs.declared.track.Track.{Track}
 use Rattle.track.specs.Tracks.{emptyTrack, live, trackBase, blank}
 use Rattle.timeline.specs.declared.timeline.At.{At}
 use Rattle.timeline.specs.declared.timeline.At.the-variants.{Absolute, Start, End, Label as Labeled, Offset}
 use Rattle.timeline.specs.declared.timeline.Timeline.{Timeline}
 
--- what stands in a place that names no entry
+-- what stands in a slot that names no entry
 abbrev pub blankLabel : Label
 blankLabel = withText []
 
@@ -31,8 +30,7 @@ liveLabels t = take (t .track .count) (t .labels)
 
 -- the start of the entry that was found; "not found, the base"
 abbrev pub startFound : Timeline → Found → Float
-startFound t (FoundAt i) = getD (live (t .track)) i blank .start
-startFound t Nothing = trackBase (t .track)
+startFound t f = cond (isFound f) (getD (live (t .track)) (entryFound f) blank .start) (trackBase (t .track))
 
 -- "`Label`: start of the first entry with that label", by the label's bytes
 unfoldable pub namedStart : Timeline → List ℕ → Float
@@ -50,7 +48,7 @@ resolveStart t (Offset offset) = maxF (add binary32 (trackBase (t .track)) offse
 abbrev pub newEntry : Float → Float → Entry
 newEntry start duration = record { start = start; duration = maxF duration zeroF; done = false }
 
--- the track with one entry more, in the place of its count
+-- the track with one entry more, in the slot of its count
 abbrev pub grownTrack : Track → Entry → Track
 grownTrack k e = record { count = k .count + 1; entries = set (k .entries) (k .count) e; clock = k .clock; looping = k .looping }
 

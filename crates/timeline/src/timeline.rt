@@ -394,7 +394,7 @@ impl Timeline {
         }
     }
 
-    // One entry more, in the place of the count.
+    // One entry more, in the slot of the count.
     fn grown(self, label: &[u8], start: f32, duration: f32) -> Timeline
         requires { ⌜ self .track .count < maxEntries ⌝ }
         ensures { λ r. ⌜ r ≡ grown self (now (label .entry)) start duration ⌝ }

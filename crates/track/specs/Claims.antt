@@ -12,7 +12,7 @@ use Rattle.track.specs.declared.track.Playhead.{Playhead}
 use Rattle.track.specs.Columns.{trackOf, withClockAt, withModeAt, trimmed}
 use Rattle.track.specs.Calls.{TrackCall, Looping, SetTimeScale, Pause, Resume, TrackOut, updated, trackStep}
 
--- the track k with what a call left of its live entries: the places past them stay, and so does the count
+-- the track k with what a call left of its live entries: the slots past them stay, and so does the count
 abbrev pub putBack : Track → Track → Track
 putBack k q = record { count = k .count; entries = over (q .entries) (k .entries); clock = q .clock; looping = q .looping }
 

@@ -17,7 +17,7 @@ use Rattle.clock.specs.declared.Clock.{Clock}
 use Rattle.track.specs.declared.track.Track.{Track}
 use Rattle.clock.specs.Clocks.{newClock, shareIn}
 
--- what stands in a place that holds no entry
+-- what stands in a slot that holds no entry
 abbrev pub blank : Entry
 blank = record { start = zeroF; duration = zeroF; done = false }
 
