@@ -14,7 +14,7 @@ use Rattle.steps.specs.Times.{maxEntries}
 use Rattle.track.specs.declared.track.Track.{Track}
 use Rattle.track.specs.declared.track.Playhead.{Playhead}
 use Rattle.track.specs.Tracks.{live}
-use Rattle.track.specs.Columns.{entriesOf, trackOf, trimmed, laidOver, regained}
+use Rattle.track.specs.Columns.{entriesOf, trackOf, trimmed, laidOver}
 use Rattle.track.specs.Calls.{TrackCall, TrackOut, trackSilent, trackStep}
 use Rattle.track.specs.Claims.{putBack, restored}
 use Rattle.track.proofs.Columns.{length-entries}
@@ -130,20 +130,16 @@ batch-back ended log bytes room =
     ap (λ (t : Track). batchOf ended (record { number = log .number; logging = log .logging; track = t }) bytes room) (sym (own-back (log .track)))
     ∙ batch-from-back (log .track) (length bytes) ended (record { number = log .number; logging = log .logging; track = trimmed (log .track) }) bytes room (refl, refl)
 
--- what is gathered from columns of 64 is put back
-pub gathered : (k : Track) (h : Playhead) (ss ds : List Float) (ms : List Bool) → 64 ≡ length ss → regained k (trackOf h ss ds ms) ≡ putBack k (trackOf h ss ds ms)
+-- what is gathered from columns of 64, with the count put back, is put back into the track
+gathered : (k : Track) (h : Playhead) (ss ds : List Float) (ms : List Bool) {g : Track} → g ≡ laidOver k (trackOf h ss ds ms) → 64 ≡ length ss
+    → record { count = k .count; entries = g .entries; clock = g .clock; looping = g .looping } ≡ putBack k (trackOf h ss ds ms)
 unfolding laidOver trackOf
-gathered k h ss ds ms e =
+gathered k h ss ds ms e l =
     let es = trackOf h ss ds ms .entries in
-    let size : length es ≤ maxEntries = omega (arith, e, length-take (min (h .count) 256) (entriesOf ss ds ms), length-entries ss ds ms) in
-    ap (λ (xs : List Entry). record { count = k .count; entries = over xs (k .entries); clock = h .clock; looping = h .looping })
+    let size : length es ≤ maxEntries = omega (arith, l, length-take (min (h .count) 256) (entriesOf ss ds ms), length-entries ss ds ms) in
+    ap (λ (x : Track). record { count = k .count; entries = x .entries; clock = x .clock; looping = x .looping }) e
+    ∙ ap (λ (xs : List Entry). record { count = k .count; entries = over xs (k .entries); clock = h .clock; looping = h .looping })
     (ap (take maxEntries) (take-length es) ∙ take-all maxEntries es size)
-
--- with the count put back, it is what the contract of `gather` says
-counted-back : (k : Track) (h : Playhead) (ss ds : List Float) (ms : List Bool) {g : Track} → g ≡ laidOver k (trackOf h ss ds ms)
-    → record { count = k .count; entries = g .entries; clock = g .clock; looping = g .looping } ≡ regained k (trackOf h ss ds ms)
-unfolding laidOver
-counted-back k h ss ds ms e = ap (λ (x : Track). record { count = k .count; entries = x .entries; clock = x .clock; looping = x .looping }) e
 
 -- the calls of a batch run in columns of 64, in which the whole track was laid out: what is gathered is what the batch leaves of it
 pub runs-whole : (ended : Bool) (log : Log) (bytes old new : List ℕ) {q g : Track} (h : Playhead) (ss ds : List Float) (ms : List Bool) (r : Ran) → q ≡ trimmed (log .track)
@@ -156,6 +152,6 @@ runs-whole ended log bytes old new {q} {g} h ss ds ms r laid runs eg size =
     let b = batchOf ended (record { number = log .number; logging = log .logging; track = trimmed k }) bytes (length old) in
     let left : Log = record { number = r .number; logging = log .logging; track = trackOf h ss ds ms } in
     let own : RunsTo b r left old new = subst (λ (t : Track). RunsTo (batchOf ended (record { number = log .number; logging = log .logging; track = t }) bytes (length old)) r left old new) laid runs in
-    let track : record { count = k .count; entries = g .entries; clock = g .clock; looping = g .looping } ≡ putBack k (trackOf h ss ds ms) = counted-back k h ss ds ms eg ∙ gathered k h ss ds ms size in
+    let track : record { count = k .count; entries = g .entries; clock = g .clock; looping = g .looping } ≡ putBack k (trackOf h ss ds ms) = gathered k h ss ds ms eg size in
     rw (batch-back ended log bytes (length old), track, own .used, own .len)
     (ap (λ (l : Log). record { used = b .used; len = length (b .text); log = backLog k l }) (own .log), own .text)

@@ -114,6 +114,14 @@ unfoldable pub sought : Clock → Float → Float → Clock
 sought c total elapsed =
     record { elapsed = elapsed; state = seekState total elapsed (c .state); «time_scale» = c .«time_scale»; «complete_fired» = c .«complete_fired» }
 
+-- whether an update goes on: `self.state == Playing`, and the base is not 0
+unfoldable pub advances : Clock → Float → Bool
+advances c base = isPlaying (c .state) && not (eq base zeroF)
+
+-- what an update outside Once sends to every entry, where it comes to elapsed: nothing, if it does not go on
+unfoldable pub advanceRule : Bool → Loop → Float → Float → Rule
+advanceRule on mode base elapsed = cond on (Sync (localTime mode base elapsed)) Keep
+
 -- `dt.max(0.0) * self.time_scale` after the elapsed time
 unfoldable pub nextElapsed : Clock → Float → Float
 nextElapsed c dt = add binary32 (c .elapsed) (mul binary32 (maxF dt zeroF) (c .«time_scale»))
@@ -142,3 +150,7 @@ fires c ended = ended && not (c .«complete_fired»)
 unfoldable pub advancedClock : Clock → Float → Bool → Clock
 advancedClock c elapsed ended =
     record { elapsed = elapsed; state = cond ended Completed (c .state); «time_scale» = c .«time_scale»; «complete_fired» = ended || c .«complete_fired» }
+
+-- the clock of an update that does not go on: while Playing there is nothing to play, so that the run ends where it stands
+unfoldable pub stayedClock : Clock → Clock
+stayedClock c = cond (isPlaying (c .state)) (advancedClock c (c .elapsed) true) c

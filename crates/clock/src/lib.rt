@@ -3,7 +3,7 @@ use steps::Rule;
 use tween::Loop;
 ghost use mathlib.Core.Path.{_≡_};
 ghost use mathlib.Core.Bool.{cond};
-ghost use Rattle.clock.specs.Clocks.{letterOf, isPlaying, isCompleted, withState, scaled, cleared, started, playState, played, playRule, pausedState, paused, resumedState, resumed, unended, seekTo, shareIn, seekState, sought, nextElapsed, within, reachOf, fires, advancedClock};
+ghost use Rattle.clock.specs.Clocks.{letterOf, isPlaying, isCompleted, withState, scaled, cleared, started, playState, played, playRule, pausedState, paused, resumedState, resumed, unended, seekTo, shareIn, seekState, sought, advances, advanceRule, nextElapsed, within, reachOf, fires, advancedClock};
 
 // The playback state of a timeline.
 pub enum TimelineState {
@@ -176,6 +176,14 @@ pub fn play_rule(mode: Loop, clock: Clock, base: f32) -> Rule
     }
 }
 
+// What an update outside Once sends to every entry: it comes to elapsed, if it goes on.
+pub fn advance_rule(advances: bool, mode: Loop, base: f32, elapsed: f32) -> Rule
+    ensures { λ r. ⌜ r ≡ advanceRule advances mode base elapsed ⌝ }
+{
+    let t = steps::local_time(mode, base, elapsed);
+    if advances { Rule::Sync(t) } else { Rule::Keep }
+}
+
 // A run of this length bounds an update to next, and ends it.
 pub fn reach_within(total: f32, next: f32) -> Reach
     ensures { λ r. ⌜ r ≡ within total next ⌝ }
@@ -304,6 +312,17 @@ impl Clock {
             time_scale: self.time_scale,
             complete_fired: self.complete_fired,
         }
+    }
+
+    // Whether an update goes on from here: it is Playing, and there is something to play.
+    pub fn advances(self, base: f32) -> bool
+        ensures { λ r. ⌜ r ≡ advances self base ⌝ }
+    {
+        let state = self.state;
+        if base == 0.0 {
+            return false;
+        }
+        is_playing(state)
     }
 
     // The elapsed time to which `update` would go, in a run without end.

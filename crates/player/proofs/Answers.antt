@@ -29,10 +29,10 @@ use Rattle.track.specs.Tracks.{live, trackBase, rowsOf, doneOf, moved, Sent}
 use Rattle.track.specs.Columns.{firstOf, trackOf, withClockAt}
 use Rattle.track.specs.Updates.{ticks, newlyDone, Advance}
 use Rattle.track.specs.Calls.{TrackOut, fitted, advancedTo}
-use Rattle.track.specs.Answers.{Answer, UpdatesBy}
+use Rattle.track.specs.Answers.{Answer, refusedBy, reachedFrom, UpdatesBy}
 use Rattle.track.proofs.Columns.{own, completed}
 use Rattle.track.proofs.Outcomes.{outnumbered, finished, listed-within, listed-over}
-use Rattle.player.specs.Answered.{refusedBy, reachedFrom, tickedTo, syncedTo}
+use Rattle.player.specs.Answered.{tickedTo, syncedTo}
 use Rattle.player.proofs.Loops.{applied, ticked-own}
 
 -- in Once the run is the base

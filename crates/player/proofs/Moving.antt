@@ -14,13 +14,13 @@ use Rattle.track.specs.declared.track.Track.{Track}
 use Rattle.track.specs.declared.track.Playhead.{Playhead}
 use Rattle.track.specs.Tracks.{live, rowsOf, doneOf, Sent}
 use Rattle.track.specs.Columns.{firstOf, trackOf, withClockAt}
-use Rattle.track.specs.Calls.{roomOf, TrackOut, sent}
+use Rattle.track.specs.Calls.{roomOf, shortIn, TrackOut, sent}
 use Rattle.track.specs.Answers.{MovesBy}
 use Rattle.track.proofs.Columns.{roomy}
-use Rattle.track.proofs.Outcomes.{shortBy, room-left, moves-short, moves-sent}
+use Rattle.track.proofs.Outcomes.{room-left, moves-short, moves-sent}
 use Rattle.player.proofs.Loops.{applied}
 
-module _ (h : Playhead) (ss ds : List Float) (ms : List Bool) (k : List ℕ) (a p : List Float) {n : ℕ} (all : n ≡ length (live (trackOf h ss ds ms))) {b : Bool} (eb : b ≡ shortBy n (length k) (length a) (length p)) where
+module _ (h : Playhead) (ss ds : List Float) (ms : List Bool) (k : List ℕ) (a p : List Float) {n : ℕ} (all : n ≡ length (live (trackOf h ss ds ms))) {b : Bool} (eb : b ≡ shortIn n (length k) (length a) (length p)) where
   abbrev t : Track
   t = trackOf h ss ds ms
 

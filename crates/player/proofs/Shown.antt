@@ -1,27 +1,23 @@
 -- The preview: it goes over a copy of the marks, and sends the rows of an update.
 use Prim.Native.Nat.{ℕ, zero, suc, min}
 use mathlib.Core.Path.{_≡_, refl, sym, ap, subst, _∙_}
-use mathlib.Core.Bool.{Bool, true, false}
-use mathlib.Core.List.{List, [], _∷_, map}
+use mathlib.Core.Bool.{Bool, false}
+use mathlib.Core.List.{List, [], _∷_}
 use native.Mathlib.Omega.{arith}
 use lib.ListN.{length, take}
 use lib.Seq.{take-length}
 use lib.Ieee.{Float}
 use Rattle.steps.specs.declared.Entry.{Entry}
 use Rattle.steps.specs.declared.Row.{Row}
-use Rattle.steps.specs.declared.Rule.the-variants.{Keep}
-use Rattle.steps.specs.Rows.{ruled}
 use Rattle.completions.specs.Columns.{mostEntries}
-use Rattle.clock.specs.Clocks.{isPlaying}
 use Rattle.track.specs.declared.track.Track.{Track}
 use Rattle.track.specs.declared.track.Playhead.{Playhead}
-use Rattle.track.specs.Tracks.{live, rowsOf, Sent}
+use Rattle.track.specs.Tracks.{live, Sent}
 use Rattle.track.specs.Columns.{entryOf, firstOf, trackOf}
-use Rattle.track.specs.Updates.{Advance, playing}
-use Rattle.track.specs.Calls.{roomOf, Preview, rested, advancedTo, trackStep}
+use Rattle.track.specs.Calls.{roomOf, shortIn, Preview, TrackOut, updated, trackStep}
 use Rattle.track.specs.Answers.{ShowsBy}
 use Rattle.track.proofs.Columns.{own, roomy}
-use Rattle.track.proofs.Outcomes.{shortBy, rests, plays, shows}
+use Rattle.track.proofs.Outcomes.{shows}
 use Rattle.player.specs.Loops.{countedAt}
 
 -- ---- a copy of the first n marks
@@ -50,25 +46,16 @@ module _ (h : Playhead) (ss ds : List Float) (ms : List Bool) (n : ℕ) (all : n
       let same : firstOf (min n mostEntries) ss ds ms′ ≡ es = ap (λ (m : ℕ). firstOf m ss ds ms′) most-own ∙ first-same n ss ds ms ms′ e ∙ own h ss ds ms n all ∙ take-length es in
       rw same
 
-  module _ (dt : Float) {k₀ k : List ℕ} {a₀ a p₀ p : List Float} (room : shortBy n (length k₀) (length a₀) (length p₀) ≡ false) where
-    -- at rest
-    pub shows-rest : isPlaying (t .clock .state) ≡ false → Sent (rowsOf (map (ruled Keep) (firstOf n ss ds ms′))) k₀ k a₀ a p₀ p → ShowsBy (trackStep t (Preview dt (roomOf k₀ a₀ p₀))) 0 k₀ k a₀ a p₀ p
-    unfolding rested
-    shows-rest off s =
-        shows t dt k₀ a₀ p₀ all room (rests t dt [] off)
-        (subst (λ (es : List Entry). Sent (rowsOf (map (ruled Keep) es)) k₀ k a₀ a p₀ p) (first-same n ss ds ms ms′ e ∙ own h ss ds ms n all) s)
-
-    -- while it plays
-    pub shows-play : isPlaying (t .clock .state) ≡ true → Sent (rowsOf (playing (trackOf (countedAt h n) ss ds ms′) dt [] .steps)) k₀ k a₀ a p₀ p → ShowsBy (trackStep t (Preview dt (roomOf k₀ a₀ p₀))) 0 k₀ k a₀ a p₀ p
-    unfolding advancedTo
-    shows-play on s =
-        shows t dt k₀ a₀ p₀ all room (plays t dt [] on refl)
-        (subst (λ (q : Track). Sent (rowsOf (playing q dt [] .steps)) k₀ k a₀ a p₀ p) copied s)
+  -- the rows of the update are shown
+  pub shows-same : (dt : Float) {k₀ k : List ℕ} {a₀ a p₀ p : List Float} → shortIn n (length k₀) (length a₀) (length p₀) ≡ false → Sent (updated (trackOf (countedAt h n) ss ds ms′) dt [] .rows) k₀ k a₀ a p₀ p
+      → ShowsBy (trackStep t (Preview dt (roomOf k₀ a₀ p₀))) 0 k₀ k a₀ a p₀ p
+  shows-same dt {k₀} {k} {a₀} {a} {p₀} {p} room s =
+      shows t dt k₀ a₀ p₀ all room refl (subst (λ (q : Track). Sent (updated q dt [] .rows) k₀ k a₀ a p₀ p) copied s)
 
 -- ---- what an update sends
 
 module _ (h : Playhead) (ss ds : List Float) (ms : List Bool) (n : ℕ) (all : n ≡ length (live (trackOf h ss ds ms))) (dt : Float) {k₀ k : List ℕ} {a₀ a p₀ p : List Float} where
-  -- rows of the first n entries, by the course that the update takes
-  pub shown : {v : Advance} → playing (trackOf h ss ds ms) dt [] ≡ v → (f : List Entry → List Row) → f (live (trackOf h ss ds ms)) ≡ rowsOf (v .steps) → Sent (f (firstOf n ss ds ms)) k₀ k a₀ a p₀ p → Sent (rowsOf (playing (trackOf h ss ds ms) dt [] .steps)) k₀ k a₀ a p₀ p
-  shown ev f ef s =
-      subst (λ (rs : List Row). Sent rs k₀ k a₀ a p₀ p) (ap f (own h ss ds ms n all) ∙ ef ∙ sym (ap (λ (v : Advance). rowsOf (v .steps)) ev)) s
+  -- rows of the first n entries, by what the update comes to
+  pub shown : {o : TrackOut} → updated (trackOf h ss ds ms) dt [] ≡ o → (f : List Entry → List Row) → f (live (trackOf h ss ds ms)) ≡ o .rows → Sent (f (firstOf n ss ds ms)) k₀ k a₀ a p₀ p → Sent (updated (trackOf h ss ds ms) dt [] .rows) k₀ k a₀ a p₀ p
+  shown eo f ef s =
+      subst (λ (rs : List Row). Sent rs k₀ k a₀ a p₀ p) (ap f (own h ss ds ms n all) ∙ ef ∙ sym (ap (λ (o : TrackOut). o .rows) eo)) s

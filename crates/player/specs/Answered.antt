@@ -1,18 +1,16 @@
 -- The answers of `update` in place, and its two courses while it plays: parts that the code works out by themselves. Definitions only.
 use denote.Ref.{now}
 use Prim.Native.Nat.{ℕ}
-use mathlib.Core.Bool.{Bool, false, not}
+use mathlib.Core.Bool.{Bool}
 use mathlib.Core.List.{List, map}
 use lib.ListN.{length}
 use lib.Ieee.{Float}
 use Rattle.float32.specs.Helpers.{minF}
-use Rattle.refusal.specs.Refusal.{accepted}
 use Rattle.steps.specs.declared.Rule.the-variants.{Sync}
 use Rattle.steps.specs.Rows.{ruled}
 use Rattle.steps.specs.Times.{localTime}
 use Rattle.completions.specs.Completions.{completionsBetween}
-use Rattle.clock.specs.declared.Clock.{Clock}
-use Rattle.clock.specs.Clocks.{isCompleted, fires, within, reachOf}
+use Rattle.clock.specs.Clocks.{within, reachOf}
 use Rattle.track.specs.declared.track.Track.{Track}
 use Rattle.track.specs.declared.track.Playhead.{Playhead}
 use Rattle.track.specs.Tracks.{live}
@@ -24,16 +22,6 @@ use Rattle.player.specs.declared.engine.Updated.{Updated}
 -- what `update` answers beside the clock
 abbrev pub answerIn : Updated → Answer
 answerIn r = record { refusal = r .refusal; running = r .running; completed = r .completed; listed = r .listed }
-
--- refused by n; at rest; and come to its end, or not
-abbrev pub refusedBy : ℕ → Answer
-refusedBy n = record { refusal = n; running = false; completed = false; listed = 0 }
-
-abbrev pub restingIn : Clock → Answer
-restingIn c = record { refusal = accepted; running = not (isCompleted (c .state)); completed = false; listed = 0 }
-
-abbrev pub reachedFrom : Clock → Bool → ℕ → Answer
-reachedFrom c ended listed = record { refusal = accepted; running = not ended; completed = fires c ended; listed = listed }
 
 -- the tick of an update to next, in Once
 abbrev pub tickedTo : Track → Float → Float → List ℕ → Advance

@@ -6,24 +6,23 @@ use clock::Clock;
 use completions::Counted;
 use completions::MOST_ENTRIES;
 use steps::Rule;
+use track::checks::replies_bad;
+use track::checks::rows_short;
 use track::track::Playhead;
 use track::track::Secs;
 use track::track::Share;
 ghost use mathlib.Core.Path.{_≡_};
-ghost use mathlib.Core.Bool.{_||_};
+ghost use mathlib.Core.List.{[]};
 ghost use Prim.Native.Nat.{_≤_};
-ghost use lib.Dec.{ltb};
 ghost use lib.ListN.{length, take};
 ghost use Rattle.refusal.specs.Refusal.{rowsTooShort};
-ghost use Rattle.clock.specs.Clocks.{advancedClock};
-ghost use mathlib.Core.List.{[]};
-ghost use Rattle.track.specs.Tracks.{live, trackBase, trackRun, progressOf, rowsOf, Sent};
+ghost use Rattle.clock.specs.Clocks.{advancedClock, stayedClock};
+ghost use Rattle.track.specs.Tracks.{live, trackBase, Sent};
 ghost use Rattle.track.specs.Columns.{trackOf};
-ghost use Rattle.track.specs.Updates.{aboveOne, playing};
-ghost use Rattle.track.specs.Calls.{Play, Reset, Seek, SeekAbs};
-ghost use Rattle.track.specs.Answers.{lentTrack, MovesInPlace, UpdatesInPlace, ShowsInPlace};
+ghost use Rattle.track.specs.Calls.{Play, Reset, Seek, SeekAbs, updated};
+ghost use Rattle.track.specs.Answers.{refusedBy, restingIn, reachedFrom, stayedIn, lentTrack, MovesInPlace, UpdatesInPlace, ShowsInPlace};
 ghost use Rattle.player.specs.Loops.{countedAt};
-ghost use Rattle.player.specs.Answered.{answerIn, refusedBy, restingIn, reachedFrom, tickedTo, syncedTo, UpdatesTo};
+ghost use Rattle.player.specs.Answered.{answerIn, tickedTo, syncedTo, UpdatesTo};
 
 // The answer of play, reset and the seeks.
 pub struct Moved {
@@ -38,35 +37,6 @@ pub struct Updated {
     pub completed: bool,
     pub listed: usize,
     pub clock: Clock,
-}
-
-// 3: one of the three row slices, with room for these, is shorter than n entries.
-fn rows_short(n: usize, kinds: usize, amounts: usize, places: usize) -> bool
-    ensures { λ r. ⌜ r ≡ (ltb kinds n || (ltb amounts n || ltb places n)) ⌝ }
-{
-    if kinds < n {
-        return true;
-    }
-    if amounts < n {
-        return true;
-    }
-    places < n
-}
-
-// 4: there are fewer replies than n, or one of those is above 1.
-fn replies_bad(replies: &[u8], n: usize) -> bool
-    ensures { λ r. ⌜ r ≡ (ltb (length (now (replies .entry))) n || aboveOne (take n (now (replies .entry)))) ⌝ }
-{
-    if replies.len() < n {
-        return true;
-    }
-    let mut bad = false;
-    let mut i = 0usize;
-    while i < n {
-        bad = steps::either(bad, replies[i] > 1);
-        i += 1;
-    }
-    bad
 }
 
 // The answer of play, reset and the seeks where they are refused by 3.
@@ -197,35 +167,6 @@ pub fn seek_abs(
     }
 }
 
-// The base: `duration`.
-pub fn duration(head: Playhead, starts: &[f32], durations: &[f32], marks: &[bool]) -> f32
-    ensures { λ r. ⌜ r ≡ trackBase (lentTrack head starts durations marks) ⌝ }
-{
-    let n = track::track::entries_in(head.count, starts.len(), durations.len(), marks.len());
-    completions::base(n, starts, durations)
-}
-
-// The run: `playback_duration`.
-pub fn playback_duration(head: Playhead, starts: &[f32], durations: &[f32], marks: &[bool]) -> f32
-    ensures { λ r. ⌜ r ≡ trackRun (lentTrack head starts durations marks) ⌝ }
-{
-    let base = duration(head, starts, durations, marks);
-    let mode = head.looping;
-    steps::run_of(mode, base)
-}
-
-// `progress`
-pub fn progress(head: Playhead, starts: &[f32], durations: &[f32], marks: &[bool]) -> f32
-    ensures { λ r. ⌜ r ≡ progressOf (lentTrack head starts durations marks) ⌝ }
-{
-    let base = duration(head, starts, durations, marks);
-    let mode = head.looping;
-    let total = steps::run_of(mode, base);
-    let c = head.clock;
-    let elapsed = c.elapsed;
-    track::track::progress_in(mode, base, total, elapsed)
-}
-
 // The answer of an update that is refused: nothing has moved.
 fn refused(refusal: u8, before: Clock) -> Updated
     ensures { λ r. ⌜ (answerIn r ≡ refusedBy refusal) × (r .clock ≡ before) ⌝ }
@@ -269,6 +210,17 @@ fn reached(before: Clock, elapsed: f32, ended: bool, listed: usize) -> Updated
         listed,
         clock,
     }
+}
+
+// The answer of an update that does not go on from this clock: it is at rest, or has nothing to play, which ends the run.
+fn stayed(before: Clock) -> Updated
+    ensures { λ r. ⌜ (answerIn r ≡ stayedIn before) × (r .clock ≡ stayedClock before) ⌝ }
+{
+    let state = before.state;
+    if clock::is_playing(state) {
+        return reached(before, before.elapsed, true, 0);
+    }
+    resting(before)
 }
 
 // An update in Once: a tick within the base, if the list has room for the entries that it completes.
@@ -367,22 +319,8 @@ pub fn update(
     if replies_bad(replies, n) {
         return refused(refusal::BAD_REPLIES, c);
     }
-    let state = c.state;
-    if !clock::is_playing(state) {
-        apply(
-            n,
-            Rule::Keep,
-            starts,
-            durations,
-            marks,
-            kinds,
-            amounts,
-            places,
-        );
-        return resting(c);
-    }
     let base = completions::base(n, starts, durations);
-    if base == 0.0 {
+    if !c.advances(base) {
         apply(
             n,
             Rule::Keep,
@@ -393,7 +331,7 @@ pub fn update(
             amounts,
             places,
         );
-        return reached(c, c.elapsed, true, 0);
+        return stayed(c);
     }
     let next = c.next_elapsed(dt);
     let mode = head.looping;
@@ -440,7 +378,7 @@ fn copy_marks(n: usize, marks: &[bool], copy: &mut [bool])
     }
 }
 
-// The rows of an update while Playing, of the first n entries alone, with marks that are not kept.
+// The rows of an update of the first n entries alone, with marks that are not kept.
 fn show(
     head: Playhead,
     n: usize,
@@ -453,28 +391,16 @@ fn show(
     places: &mut [f32],
 )
     requires { ⌜ (n ≡ length (live (trackOf (countedAt head n) (now starts) (now durations) (now marks)))) × (n ≤ length (now kinds)) × (n ≤ length (now amounts)) × (n ≤ length (now places)) ⌝ }
-    ensures { λ _. ⌜ Sent (rowsOf (playing (lentTrack (countedAt head n) starts durations marks) dt [] .steps)) (now (kinds .entry)) (now (kinds .exit)) (now (amounts .entry)) (now (amounts .exit)) (now (places .entry)) (now (places .exit)) ⌝ }
+    ensures { λ _. ⌜ Sent (updated (lentTrack (countedAt head n) starts durations marks) dt [] .rows) (now (kinds .entry)) (now (kinds .exit)) (now (amounts .entry)) (now (amounts .exit)) (now (places .entry)) (now (places .exit)) ⌝ }
 {
-    let base = completions::base(n, starts, durations);
-    if base == 0.0 {
-        apply(
-            n,
-            Rule::Keep,
-            starts,
-            durations,
-            marks,
-            kinds,
-            amounts,
-            places,
-        );
-        return;
-    }
     let c = head.clock;
     let mode = head.looping;
+    let base = completions::base(n, starts, durations);
     let next = c.next_elapsed(dt);
     let to = clock::reach_of(mode, base, next);
     let end = to.elapsed;
-    if tween::loop_mode::is_once(mode) {
+    let advances = c.advances(base);
+    if steps::both(advances, tween::loop_mode::is_once(mode)) {
         let from = float32::min(c.elapsed, base);
         let replies = [1u8; MOST_ENTRIES];
         let mut list = [0u8; MOST_ENTRIES];
@@ -493,7 +419,7 @@ fn show(
         );
         return;
     }
-    let rule = Rule::Sync(steps::local_time(mode, base, end));
+    let rule = clock::advance_rule(advances, mode, base, end);
     apply(n, rule, starts, durations, marks, kinds, amounts, places);
 }
 
@@ -516,25 +442,10 @@ pub fn preview(
     }
     let mut copy = [false; MOST_ENTRIES];
     copy_marks(n, marks, &mut copy);
-    let c = head.clock;
-    let state = c.state;
-    if clock::is_playing(state) {
-        show(
-            head,
-            n,
-            dt,
-            starts,
-            durations,
-            &mut copy,
-            kinds,
-            amounts,
-            places,
-        );
-        return refusal::ACCEPTED;
-    }
-    apply(
+    show(
+        head,
         n,
-        Rule::Keep,
+        dt,
         starts,
         durations,
         &mut copy,

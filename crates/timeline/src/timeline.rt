@@ -1,5 +1,5 @@
 // Timelines (timeline.rs), in the Rust's order. A call that moves what plays is a door to the engine of crate player: the track is laid
-// out in columns, the call is made there, and the track is gathered from them. Of the Rust's private functions, crate steps has
+// out in columns, the call is made there, and its marks are put back. Of the Rust's private functions, crate steps has
 // `local_time_for_elapsed` and what `tick_forward` and `sync_to_elapsed` do to one entry, crate completions
 // `entry_completion_labels_between`, crate clock the state.
 use crate::introspection::AnimationIntrospection;
@@ -12,7 +12,6 @@ use label::MAX_LABEL;
 use player::engine;
 use steps::Entry;
 use steps::MAX_ENTRIES;
-use track::track::Playhead;
 use track::track::Secs;
 use track::track::Share;
 use track::track::Track;
@@ -23,8 +22,7 @@ ghost use lib.ListN.{length, getD};
 ghost use Rattle.steps.specs.Times.{maxEntries};
 ghost use Rattle.label.specs.Label.{firstLike};
 ghost use Rattle.clock.specs.Clocks.{isCompleted};
-ghost use Rattle.track.specs.Tracks.{live, trackBase, trackRun, progressOf, blank};
-ghost use Rattle.track.specs.Columns.{trackOf, withClockAt, regained};
+ghost use Rattle.track.specs.Tracks.{live, withMarks, trackBase, trackRun, progressOf, blank};
 ghost use Rattle.track.specs.Calls.{Looping, SetTimeScale, Play, Pause, Resume, Reset, Seek, SeekAbs, withClock};
 ghost use Rattle.timeline.specs.Placements.{empty, liveLabels, startFound, namedStart, resolveStart, grown};
 ghost use Rattle.timeline.specs.Calls.{Add, AddBoxed, AddAtLabel, On, addedAt, withTrack, step, addedBy};
@@ -151,7 +149,7 @@ impl Timeline {
             places,
         );
         let clock = m.clock;
-        let timeline = self.left(head, clock, &starts, &durations, &marks);
+        let timeline = self.left(clock, &marks);
         Moved {
             refusal: m.refusal,
             timeline,
@@ -197,7 +195,7 @@ impl Timeline {
             places,
         );
         let clock = m.clock;
-        let timeline = self.left(head, clock, &starts, &durations, &marks);
+        let timeline = self.left(clock, &marks);
         Moved {
             refusal: m.refusal,
             timeline,
@@ -224,7 +222,7 @@ impl Timeline {
             places,
         );
         let clock = m.clock;
-        let timeline = self.left(head, clock, &starts, &durations, &marks);
+        let timeline = self.left(clock, &marks);
         Moved {
             refusal: m.refusal,
             timeline,
@@ -257,7 +255,7 @@ impl Timeline {
             places,
         );
         let clock = m.clock;
-        let timeline = self.left(head, clock, &starts, &durations, &marks);
+        let timeline = self.left(clock, &marks);
         Moved {
             refusal: m.refusal,
             timeline,
@@ -431,21 +429,12 @@ impl Timeline {
         self.with_track(track)
     }
 
-    // What plays is gathered from the columns that it was laid out in, after a call there that left this clock.
-    fn left(
-        self,
-        head: Playhead,
-        clock: Clock,
-        starts: &[f32],
-        durations: &[f32],
-        marks: &[bool],
-    ) -> Timeline
-        ensures { λ r. ⌜ r ≡ withTrack self (regained (self .track) (trackOf (withClockAt head clock) (now (starts .entry)) (now (durations .entry)) (now (marks .entry)))) ⌝ }
+    // What is left of it after a call in columns that its track was laid out in: the clock and the marks are those of there.
+    fn left(self, clock: Clock, marks: &[bool]) -> Timeline
+        ensures { λ r. ⌜ r ≡ withTrack self (withMarks (self .track) clock (now (marks .entry))) ⌝ }
     {
         let before = self.track;
-        let after = head.with_clock(clock);
-        let mut track = before.gather(after, starts, durations, marks);
-        track.count = before.count;
+        let track = before.with_marks(clock, marks);
         self.with_track(track)
     }
 
@@ -487,7 +476,7 @@ impl Timeline {
             places,
         );
         let clock = u.clock;
-        let timeline = self.left(head, clock, &starts, &durations, &marks);
+        let timeline = self.left(clock, &marks);
         Updated {
             refusal: u.refusal,
             running: u.running,

@@ -52,7 +52,7 @@ first-at n ss ds ms i h hs hd hm =
 
 -- with new marks in the column they are the entries with new marks
 entries-marked : (n : ℕ) (xs : List Stepped) (ss ds : List Float) (ms : List Bool) → length xs ≡ length (firstOf n ss ds ms)
-    → firstOf n ss ds (over (doneOf xs) ms) ≡ marks (firstOf n ss ds ms) xs
+    → firstOf n ss ds (over (doneOf xs) ms) ≡ marks (firstOf n ss ds ms) (doneOf xs)
 entries-marked zero xs ss ds ms e = refl
 entries-marked (suc n) xs [] ds ms e = refl
 entries-marked (suc n) xs (s ∷ ss) [] ms e = refl
@@ -104,7 +104,7 @@ module _ (h : Playhead) (ss ds : List Float) (ms : List Bool) where
     put c xs l ms′ e =
         let es = firstOf most ss ds ms in
         let le : length xs ≡ length es = l ∙ ap length live-first in
-        let new : firstOf most ss ds ms′ ≡ marks es xs = ap (firstOf most ss ds) e ∙ entries-marked most xs ss ds ms le in
+        let new : firstOf most ss ds ms′ ≡ marks es (doneOf xs) = ap (firstOf most ss ds) e ∙ entries-marked most xs ss ds ms le in
         rw (new, length-marks es xs le, take-length es, over-own es xs le)
 
     ends-own : map endAt (live k) ≡ endsIn n ss ds

@@ -13,11 +13,13 @@ use Rattle.steps.specs.Slices.{over}
 use Rattle.steps.specs.Times.{maxEntries, baseOf}
 use Rattle.steps.proofs.Lists.{front, front-more, front-all, map-at, part-at}
 use Rattle.completions.specs.Columns.{mostEntries, endsIn}
+use Rattle.clock.specs.declared.Clock.{Clock}
 use Rattle.track.specs.declared.track.Track.{Track}
 use Rattle.track.specs.declared.track.Playhead.{Playhead}
-use Rattle.track.specs.Tracks.{live, withOnly, trackBase}
-use Rattle.track.specs.Columns.{entryOf, firstOf, trackOf, laidOver}
+use Rattle.track.specs.Tracks.{live, marked, marks, withMarks, withOnly, trackBase}
+use Rattle.track.specs.Columns.{entryOf, firstOf, trackOf, withClockAt, trimmed, laidOver}
 use Rattle.track.specs.Answers.{LaysOut}
+use Rattle.track.specs.Claims.{putBack}
 use Rattle.track.proofs.Marks.{noEntry}
 use Rattle.track.proofs.Columns.{roomy, own, first-at, based}
 
@@ -48,10 +50,16 @@ module _ {A : Type 0} (f : Entry → A) (es : List Entry) where
 
 -- ---- entries laid out in columns
 
--- the columns have the entries
-laid-first : (es : List Entry) (s d : List Float) (m : List Bool) → firstOf (length es) (map (λ (e : Entry). e .start) es ++ s) (map (λ (e : Entry). e .duration) es ++ d) (map (λ (e : Entry). e .done) es ++ m) ≡ es
-laid-first [] s d m = refl
-laid-first (e ∷ es) s d m = ap (λ (t : List Entry). e ∷ t) (laid-first es s d m)
+-- the columns have the entries, with the marks that stand there
+laid-marks : (es : List Entry) (s d : List Float) (m : List Bool) → firstOf (length es) (map (λ (e : Entry). e .start) es ++ s) (map (λ (e : Entry). e .duration) es ++ d) m ≡ marks es m
+laid-marks [] s d m = refl
+laid-marks (e ∷ es) s d [] = refl
+laid-marks (e ∷ es) s d (x ∷ m) = ap (λ (t : List Entry). marked e x ∷ t) (laid-marks es s d m)
+
+-- their own, where these were laid out
+own-marks : (es : List Entry) (m : List Bool) → marks es (map (λ (e : Entry). e .done) es ++ m) ≡ es
+own-marks [] m = refl
+own-marks (e ∷ es) m = ap (λ (t : List Entry). e ∷ t) (own-marks es m)
 
 -- the track of the columns is that of the entries
 pub laid : (k : Track) (es : List Entry) (h : Playhead) (s₀ s d₀ d : List Float) (m₀ m : List Bool) → length es ≤ mostEntries
@@ -63,7 +71,11 @@ pub laid : (k : Track) (es : List Entry) (h : Playhead) (s₀ s d₀ d : List Fl
 unfolding trackOf
 laid k es h s₀ s d₀ d m₀ m few e₀ e₁ e₂ e₃ =
     let most : min (length es) mostEntries ≡ length es = omega arith in
-    rw (e₀, e₁, e₂, e₃, most, laid-first es _ _ _)
+    rw (e₀, e₁, e₂, e₃, most, laid-marks es _ _ _, own-marks es _)
+
+-- every live entry is laid out, where the columns take as many as the array has
+pub all-laid : (k : Track) → length (k .entries) ≡ maxEntries → {n : ℕ} → n ≡ maxEntries → {q : Track} → q ≡ withOnly k (take n (live k)) → q ≡ trimmed k
+all-laid k l {n} en e = e ∙ ap (withOnly k) (take-all n (live k) (omega (arith, l, en, length-take (k .count) (k .entries))))
 
 -- the base of the columns is that of the track, where they take all of its entries
 pub laid-base : (k : Track) (room : ℕ) {h : Playhead} {s₀ s d₀ d : List Float} {m₀ m : List Bool} {base : Float} → length (live k) ≤ room
@@ -73,6 +85,16 @@ laid-base k room {h = h} {s = s} {d = d} {m = m} l w e =
     let all : h .count ≡ length (live (trackOf h s d m)) =
     ap (λ (x : Playhead). x .count) (w .head) ∙ sym (ap (λ (x : Track). length (live x)) (w .track) ∙ ap length (take-length es)) in
     based h s d m (h .count) all e ∙ ap trackBase (w .track) ∙ ap baseOf (take-length es ∙ take-all room (live k) l)
+
+-- what a call leaves in the columns, put back into the track that was laid out there: its clock and its marks
+pub marks-back : (k : Track) (room : ℕ) {h : Playhead} {s₀ s d₀ d : List Float} {m₀ m : List Bool} → length (live k) ≤ room → length (live k) ≤ mostEntries
+    → LaysOut k (take room (live k)) h s₀ s d₀ d m₀ m → (c : Clock) (ms : List Bool) → putBack k (trackOf (withClockAt h c) s d ms) ≡ withMarks k c ms
+unfolding trackOf
+marks-back k room l few w c ms =
+    let es = take room (live k) in
+    let all : es ≡ live k = take-all room (live k) l in
+    let most : min (length es) mostEntries ≡ length es = omega (arith, few, ap length all) in
+    rw (w .head, w .starts, w .durations, most, laid-marks es _ _ ms, all)
 
 -- ---- entries gathered from columns
 

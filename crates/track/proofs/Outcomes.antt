@@ -1,10 +1,10 @@
 -- What a call comes to, by its tests: refused, sent by a rule, at rest, or advanced. The laws that the engine cites.
 use Prim.Native.Nat.{ℕ, _≤_}
-use mathlib.Core.Path.{_≡_, refl, subst}
-use mathlib.Core.Bool.{Bool, true, false, not, cond, _||_, true≢false}
+use mathlib.Core.Path.{_≡_, refl, sym, ap, subst, _∙_}
+use mathlib.Core.Bool.{Bool, true, false, not, cond, _&&_, _||_, true≢false}
 use mathlib.Core.List.{List, [], map}
 use native.Mathlib.Omega.{arith}
-use borrow.Author.Tests.{ltb-false, leb-true, leb-false, lt-ltb, le-ltb}
+use borrow.Author.Tests.{not-true, not-false, ltb-false, leb-true, leb-false, lt-ltb, le-ltb}
 use lib.Dec.{ltb}
 use lib.ListN.{length, take}
 use lib.Ieee.{Float, eq}
@@ -16,17 +16,18 @@ use Rattle.steps.specs.declared.Rule.the-variants.{Keep, Clear, Sync}
 use Rattle.steps.specs.Rows.{ruled}
 use Rattle.steps.specs.Slices.{over}
 use Rattle.steps.specs.Times.{runOf, localTime}
+use Rattle.steps.proofs.Tests.{and-true}
 use Rattle.completions.specs.Completions.{completionsBetween}
 use Rattle.completions.specs.Answers.{roomFor, Listed}
 use Rattle.completions.specs.declared.Counted.the-variants.{Within, Over}
 use Rattle.clock.specs.declared.Clock.{Clock}
 use Rattle.clock.specs.declared.Reach.{Reach}
-use Rattle.clock.specs.Clocks.{isPlaying, isCompleted, cleared, played, playRule, seekTo, shareIn, sought, nextElapsed, reachOf, fires, advancedClock}
+use Rattle.clock.specs.Clocks.{isPlaying, cleared, played, playRule, seekTo, shareIn, sought, advances, advanceRule, nextElapsed, reachOf, advancedClock, stayedClock}
 use Rattle.track.specs.declared.track.Track.{Track}
 use Rattle.track.specs.Tracks.{live, trackBase, rowsOf, moved, Sent}
-use Rattle.track.specs.Updates.{aboveOne, ticks, newlyDone, Advance, advanced, endedAt, playing}
-use Rattle.track.specs.Calls.{Room, roomOf, Play, Reset, Seek, SeekAbs, Update, Preview, TrackOut, sent, soughtTo, rested, advancedTo, updated, fitted, updatedWith, previewed, trackStep}
-use Rattle.track.specs.Answers.{Answer, MovesBy, UpdatesBy, ShowsBy}
+use Rattle.track.specs.Updates.{aboveOne, repliesBadIn, ticks, newlyDone, Advance, advanced, endedAt, playing}
+use Rattle.track.specs.Calls.{Room, roomOf, shortIn, Play, Reset, Seek, SeekAbs, Update, Preview, TrackOut, sent, soughtTo, rested, advancedTo, updated, fitted, updatedWith, previewed, trackStep}
+use Rattle.track.specs.Answers.{Answer, refusedBy, reachedFrom, stayedIn, MovesBy, UpdatesBy, ShowsBy}
 
 -- ---- tests
 
@@ -34,22 +35,15 @@ neither : (a b : Bool) → (a || b) ≡ false → (a ≡ false) × (b ≡ false)
 neither true b e = absurd (true≢false e)
 neither false b e = (refl, e)
 
--- 3, of as many entries as have been counted
-abbrev pub shortBy : ℕ → ℕ → ℕ → ℕ → Bool
-shortBy n kinds amounts places = ltb kinds n || (ltb amounts n || ltb places n)
-
 -- the three slices have room
-pub room-left : (n : ℕ) (k : List ℕ) (a p : List Float) → shortBy n (length k) (length a) (length p) ≡ false → (n ≤ length k) × (n ≤ length a) × (n ≤ length p)
+pub room-left : (n : ℕ) (k : List ℕ) (a p : List Float) → shortIn n (length k) (length a) (length p) ≡ false → (n ≤ length k) × (n ≤ length a) × (n ≤ length p)
 room-left n k a p e =
     let x = neither (ltb (length k) n) (ltb (length a) n || ltb (length p) n) e in
     let y = neither (ltb (length a) n) (ltb (length p) n) (x .1) in
     (ltb-false (length k) n (x .0), ltb-false (length a) n (y .0), ltb-false (length p) n (y .1))
 
--- 4 likewise
-abbrev pub badBy : ℕ → List ℕ → Bool
-badBy n rs = ltb (length rs) n || aboveOne (take n rs)
-
-pub replies-left : (n : ℕ) (rs : List ℕ) → badBy n rs ≡ false → n ≤ length rs
+-- there is a reply for each entry
+pub replies-left : (n : ℕ) (rs : List ℕ) → repliesBadIn n rs ≡ false → n ≤ length rs
 replies-left n rs e = ltb-false (length rs) n (neither (ltb (length rs) n) (aboveOne (take n rs)) e .0)
 
 -- a refused call writes nothing
@@ -63,14 +57,14 @@ module _ (t : Track) (c : Clock) (rule : Rule) (k : List ℕ) (a p : List Float)
   room = roomOf k a p
 
   -- refused by 3
-  pub moves-short : (o : TrackOut) → sent t c rule room ≡ o → shortBy n (length k) (length a) (length p) ≡ true → MovesBy o 3 t k k a a p p
+  pub moves-short : (o : TrackOut) → sent t c rule room ≡ o → shortIn n (length k) (length a) (length p) ≡ true → MovesBy o 3 t k k a a p p
   unfolding sent
   moves-short o eo h =
       subst (λ (x : TrackOut). MovesBy x 3 t k k a a p p) eo
       (rw (rw en at h) (record { refusal = refl; track = refl; rows = nothing-sent k a p }))
 
   -- every entry has its row and its mark
-  pub moves-sent : (o : TrackOut) → sent t c rule room ≡ o → shortBy n (length k) (length a) (length p) ≡ false
+  pub moves-sent : (o : TrackOut) → sent t c rule room ≡ o → shortIn n (length k) (length a) (length p) ≡ false
       → (q : Track) (k′ : List ℕ) (a′ p′ : List Float) → q ≡ moved t c (map (ruled rule) (live t)) → Sent (rowsOf (map (ruled rule) (live t))) k k′ a a′ p p′ → MovesBy o 0 q k k′ a a′ p p′
   unfolding sent
   moves-sent o eo h q k′ a′ p′ em rows =
@@ -100,21 +94,41 @@ reset-sent t r ec = rw ec
 
 -- ---- an update, by the state, the base and the mode
 
+-- what an update comes to that does not go on
+abbrev pub stayed : Track → TrackOut
+stayed t = cond (isPlaying (t .clock .state)) (advancedTo t (endedAt (live t) (t .clock .elapsed))) (rested t)
+
+-- it sends nothing
+pub stayed-rows : (t : Track) → rowsOf (map (ruled Keep) (live t)) ≡ stayed t .rows
+unfolding advancedTo rested
+stayed-rows t = go (isPlaying (t .clock .state))
+  where
+    go : (b : Bool) → rowsOf (map (ruled Keep) (live t)) ≡ cond b (advancedTo t (endedAt (live t) (t .clock .elapsed))) (rested t) .rows
+    go true = refl
+    go false = refl
+
 module _ (t : Track) (dt : Float) (rs : List ℕ) where
-  pub rests : isPlaying (t .clock .state) ≡ false → updated t dt rs ≡ rested t
-  unfolding updated
-  rests e = rw e
-
-  pub plays : isPlaying (t .clock .state) ≡ true → {a : Advance} → playing t dt rs ≡ a → updated t dt rs ≡ advancedTo t a
-  unfolding updated
-  plays e ea = rw (e, ea)
-
   module _ {base : Float} (eb : base ≡ trackBase t) where
-    pub ends-at-once : eq base zeroF ≡ true → playing t dt rs ≡ endedAt (live t) (t .clock .elapsed)
-    unfolding playing
-    ends-at-once e = rw (rw eb at e)
+    pub stays : advances (t .clock) base ≡ false → updated t dt rs ≡ stayed t
+    unfolding updated playing advances
+    stays h = go (isPlaying (t .clock .state)) refl
+      where
+        go : (b : Bool) → isPlaying (t .clock .state) ≡ b → cond b (advancedTo t (playing t dt rs)) (rested t) ≡ cond b (advancedTo t (endedAt (live t) (t .clock .elapsed))) (rested t)
+        go true p =
+            let none : eq base zeroF ≡ true = not-false (eq base zeroF) (rw p at h) in
+            rw (rw eb at none)
+        go false p = refl
 
-    module _ {next : Float} {to : Reach} (e : eq base zeroF ≡ false) (en : next ≡ nextElapsed (t .clock) dt) (et : to ≡ reachOf (t .looping) base next) where
+    pub plays : advances (t .clock) base ≡ true → {a : Advance} → playing t dt rs ≡ a → updated t dt rs ≡ advancedTo t a
+    unfolding updated advances
+    plays h ea = rw (and-true (isPlaying (t .clock .state)) (not (eq base zeroF)) h .0, ea)
+
+    module _ {next : Float} {to : Reach} (h : advances (t .clock) base ≡ true) (en : next ≡ nextElapsed (t .clock) dt) (et : to ≡ reachOf (t .looping) base next) where
+      -- the base is not 0
+      e : eq base zeroF ≡ false
+      unfolding advances
+      e = not-true (eq base zeroF) (and-true (isPlaying (t .clock .state)) (not (eq base zeroF)) h .1)
+
       -- Once ticks
       pub ticks-on : isOnce (t .looping) ≡ true → playing t dt rs ≡ record { steps = ticks (minF (t .clock .elapsed) base) (to .elapsed) (live t) rs; listed = newlyDone 0 (live t) (ticks (minF (t .clock .elapsed) base) (to .elapsed) (live t) rs); reach = to }
       unfolding playing advanced
@@ -125,18 +139,16 @@ module _ (t : Track) (dt : Float) (rs : List ℕ) where
       unfolding playing advanced
       syncs-on o es = rw (es, et, en, eb, rw eb at e, o)
 
+-- its rows outside a tick: what the rule sends
+pub rows-ruled : (t : Track) (dt : Float) (rs : List ℕ) (on : Bool) {base next : Float} {to : Reach} {rule : Rule} → base ≡ trackBase t → on ≡ advances (t .clock) base → next ≡ nextElapsed (t .clock) dt → to ≡ reachOf (t .looping) base next
+    → (on && isOnce (t .looping)) ≡ false → rule ≡ advanceRule on (t .looping) base (to .elapsed) → updated t dt rs .rows ≡ rowsOf (map (ruled rule) (live t))
+unfolding advanceRule advancedTo
+rows-ruled t dt rs true eb eo en et off er =
+    ap (λ (o : TrackOut). o .rows) (plays t dt rs eb (sym eo) (syncs-on t dt rs eb (sym eo) en et off refl)) ∙ ap (λ (r : Rule). rowsOf (map (ruled r) (live t))) (sym er)
+rows-ruled t dt rs false eb eo en et off er =
+    ap (λ (o : TrackOut). o .rows) (stays t dt rs eb (sym eo)) ∙ sym (stayed-rows t) ∙ ap (λ (r : Rule). rowsOf (map (ruled r) (live t))) (sym er)
+
 -- ---- what it answers
-
--- the answer of an update that is refused by n
-abbrev pub refusedBy : ℕ → Answer
-refusedBy n = record { refusal = n; running = false; completed = false; listed = 0 }
-
--- of one at rest, and of one that ends the run or does not
-abbrev pub restingIn : Clock → Answer
-restingIn c = record { refusal = accepted; running = not (isCompleted (c .state)); completed = false; listed = 0 }
-
-abbrev pub reachedFrom : Clock → Bool → ℕ → Answer
-reachedFrom c ended listed = record { refusal = accepted; running = not ended; completed = fires c ended; listed = listed }
 
 module _ (t : Track) (l₀ k₀ : List ℕ) (a₀ p₀ : List Float) where
   -- 5: the completions outnumber the list
@@ -153,12 +165,17 @@ module _ (t : Track) (l₀ k₀ : List ℕ) (a₀ p₀ : List Float) where
     finished v ee ed h en el em rows = rw (h, ed, en) (record { answer = refl; track = rw (ee, ed) at em; list = el; rows = rows })
 
     -- nothing is sent
-    pub rested-on : {q : Track} → q ≡ moved t (t .clock) (map (ruled Keep) (live t)) → Sent (rowsOf (map (ruled Keep) (live t))) k₀ k a₀ a p₀ p
-        → UpdatesBy (fitted (length l₀) t (rested t)) (restingIn (t .clock)) q l₀ l₀ k₀ k a₀ a p₀ p
-    unfolding rested
-    rested-on em rows =
-        let fits : ltb (length l₀) 0 ≡ false = le-ltb (length l₀) 0 (omega arith) in
-        rw fits (record { answer = refl; track = em; list = refl; rows = rows })
+    pub stayed-on : {q : Track} {c : Clock} → c ≡ stayedClock (t .clock) → q ≡ moved t c (map (ruled Keep) (live t)) → Sent (rowsOf (map (ruled Keep) (live t))) k₀ k a₀ a p₀ p
+        → UpdatesBy (fitted (length l₀) t (stayed t)) (stayedIn (t .clock)) q l₀ l₀ k₀ k a₀ a p₀ p
+    unfolding advancedTo rested stayedClock
+    stayed-on {q} {c} ec em rows = go (isPlaying (t .clock .state)) refl
+      where
+        fits : ltb (length l₀) 0 ≡ false
+        fits = le-ltb (length l₀) 0 (omega arith)
+
+        go : (b : Bool) → isPlaying (t .clock .state) ≡ b → UpdatesBy (fitted (length l₀) t (stayed t)) (stayedIn (t .clock)) q l₀ l₀ k₀ k a₀ a p₀ p
+        go true p = rw (p, fits) (record { answer = refl; track = rw (ec, p) at em; list = refl; rows = rows })
+        go false p = rw (p, fits) (record { answer = refl; track = rw (ec, p) at em; list = refl; rows = rows })
 
 -- ---- the whole update
 
@@ -167,18 +184,18 @@ module _ (t : Track) (dt : Float) (rs l₀ k₀ : List ℕ) (a₀ p₀ : List Fl
   out = trackStep t (Update dt rs (length l₀) (roomOf k₀ a₀ p₀))
 
   -- refused by 3
-  pub rows-short : shortBy n (length k₀) (length a₀) (length p₀) ≡ true → UpdatesBy out (refusedBy 3) t l₀ l₀ k₀ k₀ a₀ a₀ p₀ p₀
+  pub rows-short : shortIn n (length k₀) (length a₀) (length p₀) ≡ true → UpdatesBy out (refusedBy 3) t l₀ l₀ k₀ k₀ a₀ a₀ p₀ p₀
   unfolding trackStep updatedWith
   rows-short h = rw (rw en at h) (record { answer = refl; track = refl; list = refl; rows = nothing-sent k₀ a₀ p₀ })
 
-  module _ (s : shortBy n (length k₀) (length a₀) (length p₀) ≡ false) where
+  module _ (s : shortIn n (length k₀) (length a₀) (length p₀) ≡ false) where
     -- by 4
-    pub replies-bad : badBy n rs ≡ true → UpdatesBy out (refusedBy 4) t l₀ l₀ k₀ k₀ a₀ a₀ p₀ p₀
+    pub replies-bad : repliesBadIn n rs ≡ true → UpdatesBy out (refusedBy 4) t l₀ l₀ k₀ k₀ a₀ a₀ p₀ p₀
     unfolding trackStep updatedWith
     replies-bad h = rw (rw en at s, rw en at h) (record { answer = refl; track = refl; list = refl; rows = nothing-sent k₀ a₀ p₀ })
 
     -- by neither
-    pub goes-on : badBy n rs ≡ false → {o : TrackOut} → updated t dt rs ≡ o → {x : Answer} {q : Track} {l k : List ℕ} {a p : List Float} → UpdatesBy (fitted (length l₀) t o) x q l₀ l k₀ k a₀ a p₀ p → UpdatesBy out x q l₀ l k₀ k a₀ a p₀ p
+    pub goes-on : repliesBadIn n rs ≡ false → {o : TrackOut} → updated t dt rs ≡ o → {x : Answer} {q : Track} {l k : List ℕ} {a p : List Float} → UpdatesBy (fitted (length l₀) t o) x q l₀ l k₀ k a₀ a p₀ p → UpdatesBy out x q l₀ l k₀ k a₀ a p₀ p
     unfolding trackStep updatedWith
     goes-on h eo u = rw (rw en at s, rw en at h, eo) u
 
@@ -188,12 +205,12 @@ module _ (t : Track) (dt : Float) (k₀ : List ℕ) (a₀ p₀ : List Float) {n 
   abbrev shown : TrackOut
   shown = trackStep t (Preview dt (roomOf k₀ a₀ p₀))
 
-  pub shows-none : shortBy n (length k₀) (length a₀) (length p₀) ≡ true → ShowsBy shown 3 k₀ k₀ a₀ a₀ p₀ p₀
+  pub shows-none : shortIn n (length k₀) (length a₀) (length p₀) ≡ true → ShowsBy shown 3 k₀ k₀ a₀ a₀ p₀ p₀
   unfolding trackStep previewed
   shows-none h = rw (rw en at h) (record { refusal = refl; rows = nothing-sent k₀ a₀ p₀ })
 
   -- the rows of an update, with any replies
-  pub shows : shortBy n (length k₀) (length a₀) (length p₀) ≡ false → {o : TrackOut} → updated t dt [] ≡ o → {k : List ℕ} {a p : List Float} → Sent (o .rows) k₀ k a₀ a p₀ p → ShowsBy shown 0 k₀ k a₀ a p₀ p
+  pub shows : shortIn n (length k₀) (length a₀) (length p₀) ≡ false → {o : TrackOut} → updated t dt [] ≡ o → {k : List ℕ} {a p : List Float} → Sent (o .rows) k₀ k a₀ a p₀ p → ShowsBy shown 0 k₀ k a₀ a p₀ p
   unfolding trackStep previewed
   shows h eo rows = rw (rw en at h, eo) (record { refusal = refl; rows = rows })
 

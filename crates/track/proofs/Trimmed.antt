@@ -20,7 +20,7 @@ use Rattle.steps.specs.Times.{baseOf, runOf, localTime}
 use Rattle.clock.specs.declared.Clock.{Clock}
 use Rattle.clock.specs.Clocks.{isPlaying, isCompleted, scaled, played, playRule, paused, resumed, seekTo, shareIn, sought, fires, advancedClock}
 use Rattle.track.specs.declared.track.Track.{Track}
-use Rattle.track.specs.Tracks.{live, marks, rowsOf, moved}
+use Rattle.track.specs.Tracks.{live, marks, doneOf, rowsOf, moved}
 use Rattle.track.specs.Columns.{trimmed}
 use Rattle.track.specs.Updates.{aboveOne, repliesBad, Advance, playing}
 use Rattle.track.specs.Calls.{Room, TrackCall, Looping, SetTimeScale, Play, Pause, Resume, Reset, Seek, SeekAbs, Update, Preview, TrackOut, trackSilent, refusedIf, short, sent, soughtTo, advancedTo, rested, updated, fitted, updatedWith, previewed, withClock, withLooping, trackStep}
@@ -41,9 +41,9 @@ module _ (k : Track) where
   back-moved : (c : Clock) (ss : List Stepped) → moved k c ss ≡ putBack k (moved t c ss)
   back-moved c ss =
       ap (λ (es : List Entry). record { count = k .count; entries = es; clock = c; looping = k .looping })
-      (ap (over (marks (live k) ss)) (sym (over-part (k .count) (k .entries)))
-      ∙ sym (over-over (marks (live k) ss) (live k) (k .entries) (marks-within (live k) ss))
-      ∙ ap (λ (es : List Entry). over (over (marks es ss) (live k)) (k .entries)) (sym same))
+      (ap (over (marks (live k) (doneOf ss))) (sym (over-part (k .count) (k .entries)))
+      ∙ sym (over-over (marks (live k) (doneOf ss)) (live k) (k .entries) (marks-within (live k) ss))
+      ∙ ap (λ (es : List Entry). over (over (marks es (doneOf ss)) (live k)) (k .entries)) (sym same))
 
   -- ---- the call on the track, from that on its live entries
 
@@ -143,7 +143,7 @@ module _ (k : Track) where
   moved-sized : (c : Clock) (ss : List Stepped) → Sized k (moved k c ss)
   moved-sized c ss =
       let h = marks-within (live k) ss in
-      (refl, length-over (marks (live k) ss) (k .entries) (omega (arith, h, length-take (k .count) (k .entries))))
+      (refl, length-over (marks (live k) (doneOf ss)) (k .entries) (omega (arith, h, length-take (k .count) (k .entries))))
 
   refused-sized : (b : Bool) (n : ℕ) (o : TrackOut) → Sized k (o .track) → Sized k (refusedIf b n k o .track)
   refused-sized true n o h = (refl, refl)

@@ -3,13 +3,15 @@ use denote.Triple.Both.{Both}
 use denote.Ref.{RefT, now}
 use Prim.Native.Nat.{ℕ, min}
 use mathlib.Core.Path.{_≡_}
-use mathlib.Core.Bool.{Bool}
+use mathlib.Core.Bool.{Bool, true, false, not, cond}
 use mathlib.Core.List.{List, map}
 use lib.ListN.{length, take}
 use lib.Ieee.{Float}
 use Rattle.steps.specs.declared.Entry.{Entry}
 use Rattle.steps.specs.Slices.{over}
+use Rattle.refusal.specs.Refusal.{accepted}
 use Rattle.clock.specs.declared.Clock.{Clock}
+use Rattle.clock.specs.Clocks.{isPlaying, isCompleted, fires}
 use Rattle.track.specs.declared.track.Track.{Track}
 use Rattle.track.specs.declared.track.Playhead.{Playhead}
 use Rattle.track.specs.Tracks.{live, withOnly, Sent}
@@ -29,6 +31,20 @@ pub record Answer : Type 0 where
 
 abbrev pub answerOf : TrackOut → Answer
 answerOf o = record { refusal = o .refusal; running = o .running; completed = o .completed; listed = length (o .listed) }
+
+-- of an update that is refused by n; of one at rest; of one that ends the run, or does not
+abbrev pub refusedBy : ℕ → Answer
+refusedBy n = record { refusal = n; running = false; completed = false; listed = 0 }
+
+abbrev pub restingIn : Clock → Answer
+restingIn c = record { refusal = accepted; running = not (isCompleted (c .state)); completed = false; listed = 0 }
+
+abbrev pub reachedFrom : Clock → Bool → ℕ → Answer
+reachedFrom c ended listed = record { refusal = accepted; running = not ended; completed = fires c ended; listed = listed }
+
+-- of one that does not go on: at rest, or with nothing to play, which ends the run
+abbrev pub stayedIn : Clock → Answer
+stayedIn c = cond (isPlaying (c .state)) (reachedFrom c true 0) (restingIn c)
 
 -- play, reset and the seeks with the outcome o: the refusal n, the track t, and the row slices before and after
 pub record MovesBy (o : TrackOut) (n : ℕ) (t : Track) (k₀ k : List ℕ) (a₀ a p₀ p : List Float) : Type 0 where

@@ -54,9 +54,12 @@ pub record TrackOut : Type 0 where
 abbrev pub trackSilent : ℕ → Track → TrackOut
 trackSilent n k = record { refusal = n; track = k; rows = []; running = false; completed = false; listed = [] }
 
--- 3: "one of the three row slices is shorter than the entries"
+-- 3: "one of the three row slices is shorter than the entries", of n entries
+abbrev pub shortIn : ℕ → ℕ → ℕ → ℕ → Bool
+shortIn n kinds amounts places = ltb kinds n || (ltb amounts n || ltb places n)
+
 abbrev pub short : Room → Track → Bool
-short r k = ltb (r .kinds) (length (live k)) || (ltb (r .amounts) (length (live k)) || ltb (r .places) (length (live k)))
+short r k = shortIn (length (live k)) (r .kinds) (r .amounts) (r .places)
 
 -- "A refused call writes nothing; panel and builder are unchanged. Every other part of its answer is 0, 0.0 or false"
 abbrev pub refusedIf : Bool → ℕ → Track → TrackOut → TrackOut

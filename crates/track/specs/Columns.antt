@@ -52,7 +52,3 @@ unfoldable pub laidOver : Track → Track → Track
 laidOver k other =
     let es = take maxEntries (live other) in
     record { count = length es; entries = over es (k .entries); clock = other .clock; looping = other .looping }
-
--- the same, with the count of k: what a call by value leaves, made in columns that k was laid out in
-abbrev pub regained : Track → Track → Track
-regained k other = record { count = k .count; entries = laidOver k other .entries; clock = other .clock; looping = other .looping }

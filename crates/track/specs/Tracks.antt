@@ -62,11 +62,15 @@ shareOf k share = shareIn (trackBase k) (trackRun k) share
 abbrev pub marked : Entry → Bool → Entry
 marked e d = record { start = e .start; duration = e .duration; done = d }
 
--- each entry with the mark that its step leaves
-abbrev pub marks : List Entry → List Stepped → List Entry
-marks [] ss = []
+-- each entry with a mark of its own
+abbrev pub marks : List Entry → List Bool → List Entry
+marks [] ds = []
 marks (e ∷ es) [] = []
-marks (e ∷ es) (s ∷ ss) = marked e (s .done) ∷ marks es ss
+marks (e ∷ es) (d ∷ ds) = marked e d ∷ marks es ds
+
+-- the track k with the clock c and these marks
+abbrev pub withMarks : Track → Clock → List Bool → Track
+withMarks k c ds = record { count = k .count; entries = over (marks (live k) ds) (k .entries); clock = c; looping = k .looping }
 
 -- the mark that each step leaves
 abbrev pub doneOf : List Stepped → List Bool
@@ -78,7 +82,7 @@ rowsOf = map (λ s. s .row)
 
 -- the track k with the clock c and the marks that the steps leave
 abbrev pub moved : Track → Clock → List Stepped → Track
-moved k c ss = record { count = k .count; entries = over (marks (live k) ss) (k .entries); clock = c; looping = k .looping }
+moved k c ss = withMarks k c (doneOf ss)
 
 -- What rows leave in the three lent slices, from what was there: "Rows beyond the entries are not written", and nothing where there are no rows.
 pub record Sent (rs : List Row) (k₀ k : List ℕ) (a₀ a p₀ p : List Float) : Type 0 where

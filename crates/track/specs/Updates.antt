@@ -24,9 +24,12 @@ unfoldable pub aboveOne : List ℕ → Bool
 aboveOne [] = false
 aboveOne (r ∷ rs) = ltb 1 r || aboveOne rs
 
--- 4: "the reply slice is shorter than the entries, or one of those bytes is above 1"
+-- 4: "the reply slice is shorter than the entries, or one of those bytes is above 1", of n entries
+abbrev pub repliesBadIn : ℕ → List ℕ → Bool
+repliesBadIn n rs = ltb (length rs) n || aboveOne (take n rs)
+
 abbrev pub repliesBad : List ℕ → Track → Bool
-repliesBad rs k = ltb (length rs) (length (live k)) || aboveOne (take (length (live k)) rs)
+repliesBad rs k = repliesBadIn (length (live k)) rs
 
 -- `tick_forward`: each entry with its leaf's reply; where there is none it counts as running
 unfoldable pub ticks : Float → Float → List Entry → List ℕ → List Stepped

@@ -8,10 +8,10 @@ ghost use mathlib.Core.Path.{_≡_};
 ghost use Prim.Native.Nat.{_≤_, min};
 ghost use lib.ListN.{length, take};
 ghost use Rattle.clock.specs.Clocks.{scaled, paused, resumed};
-ghost use Rattle.track.specs.Tracks.{emptyTrack, live, trackBase, trackRun, progressIn, progressOf};
+ghost use Rattle.track.specs.Tracks.{emptyTrack, live, withMarks, trackBase, trackRun, progressIn, progressOf};
 ghost use Rattle.track.specs.Columns.{withClockAt, withModeAt, trackOf, laidOver};
 ghost use Rattle.completions.specs.Columns.{mostEntries};
-ghost use Rattle.track.specs.Answers.{LaidOut};
+ghost use Rattle.track.specs.Answers.{lentTrack, LaidOut};
 ghost use Rattle.track.specs.Claims.{Claims};
 
 // Seconds of play, as `seek_abs` takes them.
@@ -86,6 +86,38 @@ impl Playhead {
             clock: c,
             looping: mode,
         }
+    }
+}
+
+// The queries, over the columns.
+impl Playhead {
+    // The base: `duration`.
+    pub fn duration(self, starts: &[f32], durations: &[f32], marks: &[bool]) -> f32
+        ensures { λ r. ⌜ r ≡ trackBase (lentTrack self starts durations marks) ⌝ }
+    {
+        let n = entries_in(self.count, starts.len(), durations.len(), marks.len());
+        completions::base(n, starts, durations)
+    }
+
+    // The run: `playback_duration`.
+    pub fn playback_duration(self, starts: &[f32], durations: &[f32], marks: &[bool]) -> f32
+        ensures { λ r. ⌜ r ≡ trackRun (lentTrack self starts durations marks) ⌝ }
+    {
+        let base = self.duration(starts, durations, marks);
+        let mode = self.looping;
+        steps::run_of(mode, base)
+    }
+
+    // `progress`
+    pub fn progress(self, starts: &[f32], durations: &[f32], marks: &[bool]) -> f32
+        ensures { λ r. ⌜ r ≡ progressOf (lentTrack self starts durations marks) ⌝ }
+    {
+        let base = self.duration(starts, durations, marks);
+        let mode = self.looping;
+        let total = steps::run_of(mode, base);
+        let c = self.clock;
+        let elapsed = c.elapsed;
+        progress_in(mode, base, total, elapsed)
     }
 }
 
@@ -175,6 +207,31 @@ impl Track {
         let mode = head.looping;
         Track {
             count: n,
+            entries,
+            clock,
+            looping: mode,
+        }
+    }
+
+    // This track after a call in columns that it was laid out in, which left the clock and the marks.
+    pub fn with_marks(self, clock: Clock, marks: &[bool]) -> Track
+        ensures { λ r. ⌜ r ≡ withMarks self clock (now (marks .entry)) ⌝ }
+    {
+        let n = steps::least(self.entry_count(), marks.len());
+        let mut entries = self.entries;
+        let mut i = 0usize;
+        while i < n {
+            let e = entries[i];
+            entries[i] = Entry {
+                start: e.start,
+                duration: e.duration,
+                done: marks[i],
+            };
+            i += 1;
+        }
+        let mode = self.looping;
+        Track {
+            count: self.count,
             entries,
             clock,
             looping: mode,

@@ -3,7 +3,7 @@ use mathlib.Core.Path.{_≡_, refl}
 use lib.ListN.{length}
 use Rattle.steps.specs.Times.{maxEntries}
 use Rattle.steps.proofs.Lists.{unmapped}
-use Rattle.timeline.proofs.Doors.{all-laid}
+use Rattle.track.proofs.Laid.{all-laid}
 use Rattle.call_log.proofs.InPlace.{runs-whole}
 use borrow.Author.Needs.{needs}
 use Rattle.call_log.proofs.batch.Statement.{statement}

@@ -1,16 +1,13 @@
+-- `preview` shows the rows over a copy of the marks.
 use mathlib.Core.Path.{sym, ap, _∙_}
-use native.Mathlib.Omega.{arith}
 use borrow.Author.Needs.{needs}
 use lib.ListN.{length}
-use Rattle.clock.specs.declared.Clock.{Clock}
-use Rattle.clock.specs.Clocks.{isPlaying}
 use Rattle.track.specs.declared.track.Track.{Track}
 use Rattle.track.specs.Tracks.{live}
 use Rattle.track.specs.Columns.{trackOf}
 use Rattle.track.proofs.Columns.{counted, roomy}
 use Rattle.track.proofs.Outcomes.{room-left, shows-none}
-use Rattle.player.proofs.Answers.{clock-own}
-use Rattle.player.proofs.Shown.{copied, shows-rest, shows-play}
+use Rattle.player.proofs.Shown.{copied, shows-same}
 use Rattle.player.proofs.engine.preview.Statement.{statement}
 use Rattle.player.proofs.engine.preview.Tie as tie
 
@@ -38,26 +35,22 @@ copy-marks-requires c κs =
     let ss = g .starts .now in
     let ds = g .durations .now in
     let ms = g .marks .now in
-    let n = c .before .before .before .entries-in .result in
-    let wide = roomy (g .head) ss ds ms n (counted (g .head) ss ds ms (c .before .before .before .entries-in .ensures)) in
+    let wide = roomy (g .head) ss ds ms (c .before .before .before .entries-in .result) (counted (g .head) ss ds ms (c .before .before .before .entries-in .ensures)) in
     (wide .2, wide .3)
-
-is-playing-requires : tie.Need-is-playing-requires
-is-playing-requires c κs = search needs
 
 slice-aggregate-show : tie.Need-slice-aggregate-show
 slice-aggregate-show c = search needs
 
 show-requires : tie.Need-show-requires
 show-requires c κs =
-    let g = c .before .before .before .before .before .before .before .before .before .before .before .before .before .before .before .before .before .before .before .args in
+    let g = c .before .before .before .before .before .before .before .before .before .before .before .before .before .before .before .before .args in
     let ss = g .starts .now in
     let ds = g .durations .now in
     let ms = g .marks .now in
-    let n = c .before .before .before .before .before .before .before .before .before .before .before .before .entries-in .result in
-    let all = counted (g .head) ss ds ms (c .before .before .before .before .before .before .before .before .before .before .before .before .entries-in .ensures) in
-    let room = room-left n (g .kinds .now) (g .amounts .now) (g .places .now) (sym (c .before .before .before .before .before .before .before .before .before .before .before .rows-short .ensures) ∙ c .before .before .before .before .before .before .before .before .before .before .if1 .left) in
-    (all ∙ ap (λ (q : Track). length (live q)) (sym (copied (g .head) ss ds ms n all _ (c .before .before .before .before .before .before .before .before .copy-marks .ensures))), room .0, room .1, room .2)
+    let n = c .before .before .before .before .before .before .before .before .before .entries-in .result in
+    let all = counted (g .head) ss ds ms (c .before .before .before .before .before .before .before .before .before .entries-in .ensures) in
+    let room = room-left n (g .kinds .now) (g .amounts .now) (g .places .now) (sym (c .before .before .before .before .before .before .before .before .rows-short .ensures) ∙ c .before .before .before .before .before .before .before .if1 .left) in
+    (all ∙ ap (λ (q : Track). length (live q)) (sym (copied (g .head) ss ds ms n all _ (c .before .before .before .before .before .copy-marks .ensures))), room .0, room .1, room .2)
 
 same-length : tie.Need-same-length
 same-length c = search needs
@@ -70,48 +63,13 @@ same-length-3 c = search needs
 
 returns-2 : tie.Need-returns-2
 returns-2 c =
-    let g = c .before .before .before .before .before .before .before .before .before .before .before .before .before .before .before .before .before .before .before .before .before .before .before .before .before .before .before .args in
+    let g = c .before .before .before .before .before .before .before .before .before .before .before .before .before .before .before .before .before .before .before .before .before .before .before .before .args in
     let ss = g .starts .now in
     let ds = g .durations .now in
     let ms = g .marks .now in
-    let n = c .before .before .before .before .before .before .before .before .before .before .before .before .before .before .before .before .before .before .before .before .entries-in .result in
-    let all = counted (g .head) ss ds ms (c .before .before .before .before .before .before .before .before .before .before .before .before .before .before .before .before .before .before .before .before .entries-in .ensures) in
-    let on = ap (λ (d : Clock). isPlaying (d .state)) (clock-own (g .head) ss ds ms) ∙ sym (c .before .before .before .before .before .before .before .before .before .before .before .before .before .is-playing .ensures) ∙ c .before .before .before .before .before .before .before .before .before .before .before .before .if2 .taken in
-    shows-play (g .head) ss ds ms n all _ (c .before .before .before .before .before .before .before .before .before .before .before .before .before .before .before .before .copy-marks .ensures) (g .dt) (sym (c .before .before .before .before .before .before .before .before .before .before .before .before .before .before .before .before .before .before .before .rows-short .ensures) ∙ c .before .before .before .before .before .before .before .before .before .before .before .before .before .before .before .before .before .before .if1 .left) on (c .before .before .before .before .before .before .before .show .ensures)
-
-slice-aggregate-apply : tie.Need-slice-aggregate-apply
-slice-aggregate-apply c = search needs
-
-apply-requires : tie.Need-apply-requires
-apply-requires c κs =
-    let g = c .before .before .before .before .before .before .before .before .before .before .before .before .before .before .before .before .before .before .before .args in
-    let ss = g .starts .now in
-    let ds = g .durations .now in
-    let ms = g .marks .now in
-    let n = c .before .before .before .before .before .before .before .before .before .before .before .before .entries-in .result in
-    let wide = roomy (g .head) ss ds ms n (counted (g .head) ss ds ms (c .before .before .before .before .before .before .before .before .before .before .before .before .entries-in .ensures)) in
-    let room = room-left n (g .kinds .now) (g .amounts .now) (g .places .now) (sym (c .before .before .before .before .before .before .before .before .before .before .before .rows-short .ensures) ∙ c .before .before .before .before .before .before .before .before .before .before .if1 .left) in
-    (wide .0, wide .1, omega (arith, wide .3), room .0, room .1, room .2)
-
-same-length-4 : tie.Need-same-length-4
-same-length-4 c = search needs
-
-same-length-5 : tie.Need-same-length-5
-same-length-5 c = search needs
-
-same-length-6 : tie.Need-same-length-6
-same-length-6 c = search needs
-
-returns-3 : tie.Need-returns-3
-returns-3 c =
-    let g = c .before .before .before .before .before .before .before .before .before .before .before .before .before .before .before .before .before .before .before .before .before .before .before .before .before .before .before .args in
-    let ss = g .starts .now in
-    let ds = g .durations .now in
-    let ms = g .marks .now in
-    let n = c .before .before .before .before .before .before .before .before .before .before .before .before .before .before .before .before .before .before .before .before .entries-in .result in
-    let all = counted (g .head) ss ds ms (c .before .before .before .before .before .before .before .before .before .before .before .before .before .before .before .before .before .before .before .before .entries-in .ensures) in
-    let off = ap (λ (d : Clock). isPlaying (d .state)) (clock-own (g .head) ss ds ms) ∙ sym (c .before .before .before .before .before .before .before .before .before .before .before .before .before .is-playing .ensures) ∙ c .before .before .before .before .before .before .before .before .before .before .before .before .if2 .left in
-    shows-rest (g .head) ss ds ms n all _ (c .before .before .before .before .before .before .before .before .before .before .before .before .before .before .before .before .copy-marks .ensures) (g .dt) (sym (c .before .before .before .before .before .before .before .before .before .before .before .before .before .before .before .before .before .before .before .rows-short .ensures) ∙ c .before .before .before .before .before .before .before .before .before .before .before .before .before .before .before .before .before .before .if1 .left) off (c .before .before .before .before .before .before .before .apply .ensures .1)
+    let n = c .before .before .before .before .before .before .before .before .before .before .before .before .before .before .before .before .before .entries-in .result in
+    let all = counted (g .head) ss ds ms (c .before .before .before .before .before .before .before .before .before .before .before .before .before .before .before .before .before .entries-in .ensures) in
+    shows-same (g .head) ss ds ms n all _ (c .before .before .before .before .before .before .before .before .before .before .before .before .before .copy-marks .ensures) (g .dt) (sym (c .before .before .before .before .before .before .before .before .before .before .before .before .before .before .before .before .rows-short .ensures) ∙ c .before .before .before .before .before .before .before .before .before .before .before .before .before .before .before .if1 .left) (c .before .before .before .before .before .before .before .show .ensures)
 
 pub preview-spec : {M : Type 1} → statement M
 preview-spec =
@@ -122,16 +80,9 @@ preview-spec =
     returns
     slice-aggregate-copy-marks
     copy-marks-requires
-    is-playing-requires
     slice-aggregate-show
     show-requires
     same-length
     same-length-2
     same-length-3
-    returns-2
-    slice-aggregate-apply
-    apply-requires
-    same-length-4
-    same-length-5
-    same-length-6
-    returns-3)
+    returns-2)

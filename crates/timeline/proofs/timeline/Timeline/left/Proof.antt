@@ -1,21 +1,16 @@
--- `left` is the timeline with the track regained.
-use Rattle.track.specs.Columns.{laidOver}
+-- `left` is the timeline with the marks put back.
 use borrow.Author.Needs.{needs}
 use Rattle.timeline.proofs.timeline.Timeline.left.Statement.{statement}
 use Rattle.timeline.proofs.timeline.Timeline.left.Tie as tie
 
-with-clock-requires : tie.Need-with-clock-requires
-with-clock-requires c κs = search needs
-
-gather-requires : tie.Need-gather-requires
-gather-requires c κs = search needs
+with-marks-requires : tie.Need-with-marks-requires
+with-marks-requires c κs = search needs
 
 with-track-requires : tie.Need-with-track-requires
 with-track-requires c κs = search needs
 
 returns : tie.Need-returns
-unfolding laidOver
-returns c = rw (c .with-track .ensures, c .before .gather .ensures, c .before .before .with-clock .ensures)
+returns c = rw (c .with-track .ensures, c .before .with-marks .ensures)
 
 pub left-spec : {M : Type 1} → statement M
-left-spec = tie.close (tie.spec with-clock-requires gather-requires with-track-requires returns)
+left-spec = tie.close (tie.spec with-marks-requires with-track-requires returns)

@@ -5,7 +5,7 @@ use lib.ListN.{length}
 use Rattle.steps.specs.Times.{maxEntries}
 use Rattle.steps.proofs.Lists.{unmapped}
 use Rattle.track.specs.Calls.{Preview}
-use Rattle.timeline.proofs.Doors.{all-laid, door-shows}
+use Rattle.timeline.proofs.Doors.{door-shows}
 use Rattle.timeline.proofs.timeline.Timeline.preview.Statement.{statement}
 use Rattle.timeline.proofs.timeline.Timeline.preview.Tie as tie
 
@@ -48,7 +48,7 @@ returns c =
     let t = start .args .self in
     let own = start .good .0 .0 in
     let long : length (t .track .entries) ≡ maxEntries = search (unmapped, needs) in
-    door-shows t long (Preview _ _) (all-laid (t .track) long refl (c .before .before .before .before .before .before .before .before .before .before .before .before .before .before .before .before .lay-out .ensures .track)) _ _ _ _ _ _ (c .before .before .before .before .before .before .preview .ensures)
+    door-shows t long (Preview _ _) refl (c .before .before .before .before .before .before .before .before .before .before .before .before .before .before .before .before .lay-out .ensures) _ _ _ _ _ _ (c .before .before .before .before .before .before .preview .ensures)
 
 pub preview-spec : {M : Type 1} → statement M
 preview-spec =

@@ -2,8 +2,8 @@
 use Rattle.steps.proofs.Tests.{or-left, or-right}
 use mathlib.Core.Path.{sym}
 use borrow.Author.Tests.{lt-ltb, le-ltb}
-use Rattle.player.proofs.engine.rows_short.Statement.{statement}
-use Rattle.player.proofs.engine.rows_short.Tie as tie
+use Rattle.track.proofs.checks.rows_short.Statement.{statement}
+use Rattle.track.proofs.checks.rows_short.Tie as tie
 
 returns : tie.Need-returns
 returns c = sym (or-left _ _ (lt-ltb _ _ (c .if1 .taken)))

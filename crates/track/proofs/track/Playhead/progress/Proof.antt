@@ -1,8 +1,8 @@
 -- `progress` is `progressOf`.
 use borrow.Author.Needs.{needs}
 use Rattle.track.specs.Columns.{trackOf}
-use Rattle.player.proofs.engine.progress.Statement.{statement}
-use Rattle.player.proofs.engine.progress.Tie as tie
+use Rattle.track.proofs.track.Playhead.progress.Statement.{statement}
+use Rattle.track.proofs.track.Playhead.progress.Tie as tie
 
 duration-requires : tie.Need-duration-requires
 duration-requires c κs = search needs

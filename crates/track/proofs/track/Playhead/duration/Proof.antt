@@ -1,8 +1,8 @@
 -- `duration` is the base.
 use borrow.Author.Needs.{needs}
 use Rattle.track.proofs.Columns.{counted, based}
-use Rattle.player.proofs.engine.duration.Statement.{statement}
-use Rattle.player.proofs.engine.duration.Tie as tie
+use Rattle.track.proofs.track.Playhead.duration.Statement.{statement}
+use Rattle.track.proofs.track.Playhead.duration.Tie as tie
 
 entries-in-requires : tie.Need-entries-in-requires
 entries-in-requires c κs = search needs
@@ -16,7 +16,7 @@ returns c =
     let ss = g .starts .now in
     let ds = g .durations .now in
     let ms = g .marks .now in
-    based (g .head) ss ds ms _ (counted (g .head) ss ds ms (c .before .entries-in .ensures)) (c .base .ensures)
+    based (g .self) ss ds ms _ (counted (g .self) ss ds ms (c .before .entries-in .ensures)) (c .base .ensures)
 
 pub duration-spec : {M : Type 1} → statement M
 duration-spec = tie.close (tie.spec entries-in-requires base-requires returns)

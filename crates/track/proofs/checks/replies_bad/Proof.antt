@@ -8,10 +8,10 @@ use borrow.Author.Tests.{lt-ltb, le-ltb}
 use lib.Dec.{ltb}
 use lib.ListN.{length, getD, take, drop}
 use Rattle.steps.proofs.Tests.{or-left}
 use Rattle.track.specs.Updates.{aboveOne}
 use Rattle.track.proofs.Replies.{one-here, none-left}
-use Rattle.player.proofs.engine.replies_bad.Statement.{statement}
-use Rattle.player.proofs.engine.replies_bad.Tie as tie
+use Rattle.track.proofs.checks.replies_bad.Statement.{statement}
+use Rattle.track.proofs.checks.replies_bad.Tie as tie
 
 or-assoc : (a b c : Bool) → ((a || b) || c) ≡ (a || (b || c))
 or-assoc true b c = refl

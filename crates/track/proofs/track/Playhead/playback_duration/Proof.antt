@@ -2,9 +2,9 @@
 use mathlib.Core.Path.{ap, _∙_}
 use borrow.Author.Needs.{needs}
 use Rattle.steps.specs.Times.{runOf}
 use Rattle.track.specs.Columns.{trackOf}
-use Rattle.player.proofs.engine.playback_duration.Statement.{statement}
-use Rattle.player.proofs.engine.playback_duration.Tie as tie
+use Rattle.track.proofs.track.Playhead.playback_duration.Statement.{statement}
+use Rattle.track.proofs.track.Playhead.playback_duration.Tie as tie
 
 duration-requires : tie.Need-duration-requires
 duration-requires c κs = search needs
