@@ -1,6 +1,7 @@
 // Where a timeline's entries end, and what completes outside Once: `duration` and `entry_completion_labels_between` of
 // timeline.rs, the latter as entry numbers. Entries are two lent columns, their starts and their durations.
 // One pass over the cycles counts the completions, and stops as soon as they outnumber the lent list; a second pass writes them.
+use steps::least;
 use tween::Loop;
 ghost use mathlib.Core.Path.{_≡_};
 ghost use mathlib.Core.Bool.{true, false};
@@ -270,13 +271,6 @@ fn list_in(
     }
     let first = first_cycle(w);
     list_from(n, starts, durations, w, first, list)
-}
-
-// The smaller of the two.
-fn least(a: usize, b: usize) -> usize
-    ensures { λ r. ⌜ r ≡ min a b ⌝ }
-{
-    if a < b { a } else { b }
 }
 
 // How many of the first count entries the columns have.

@@ -7,6 +7,7 @@ use call_log::MAX_SHEET;
 use libc::STDERR_FILENO;
 use libc::STDIN_FILENO;
 use libc::STDOUT_FILENO;
+use steps::least;
 ghost use Prim.Native.Nat.{_+_, _≤_};
 ghost use mathlib.Core.Path.{_≡_};
 ghost use mathlib.Core.List.{_++_};
@@ -55,13 +56,6 @@ fn main() {
     }
     let log = opened.log;
     script(log);
-}
-
-// A number above `top` counts as `top`.
-fn least(n: usize, top: usize) -> usize
-    ensures { λ r. ⌜ r ≤ top ⌝ }
-{
-    if n < top { n } else { top }
 }
 
 // Reads the two bytes that say how long the sheet is, and the sheet, or as much as there is.

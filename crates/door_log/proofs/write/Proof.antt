@@ -1,4 +1,5 @@
 -- `door_log::write` writes no more than there is.
+use native.Mathlib.Omega.{arith}
 use borrow.Author.Needs.{needs}
 use Rattle.door_log.proofs.Parts.{front}
 use Rattle.door_log.proofs.write.Statement.{statement}
@@ -8,7 +9,7 @@ least-requires : tie.Need-least-requires
 least-requires c κs = search needs
 
 slice-aggregate-write-all : tie.Need-slice-aggregate-write-all
-slice-aggregate-write-all c = front _ _ (c .before .least .ensures)
+slice-aggregate-write-all c = front _ _ (omega (arith, c .before .least .ensures))
 
 write-all-requires : tie.Need-write-all-requires
 write-all-requires c κs = search needs
