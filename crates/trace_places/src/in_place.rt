@@ -14,6 +14,7 @@ use case_io::text::Sink;
 use clock::Clock;
 use player::engine;
 use steps::both;
+use steps::least;
 use timeline::timeline::Moved;
 use timeline::timeline::Timeline;
 use timeline::timeline::Updated;
@@ -24,7 +25,6 @@ use trace_read::Update;
 use track::track::Playhead;
 use track::track::Secs;
 use track::track::Share;
-ghost use Prim.Native.Nat.{_≤_};
 
 // What a call in place leaves, and whether the call by value left the same.
 pub struct Followed {
@@ -59,12 +59,10 @@ pub fn moved(
     starts: &[f32; ROWS],
     durations: &[f32; ROWS],
     marks: &mut [bool; ROWS],
-) -> Followed
-    requires { ⌜ (room .kinds ≤ 300) × (room .amounts ≤ 300) × (room .places ≤ 300) ⌝ }
-{
-    let k = room.kinds;
-    let a = room.amounts;
-    let p = room.places;
+) -> Followed {
+    let k = least(room.kinds, ROWS);
+    let a = least(room.amounts, ROWS);
+    let p = least(room.places, ROWS);
     let mut k2 = fresh_bytes();
     let mut a2 = fresh_floats(AMOUNT);
     let mut p2 = fresh_floats(PLACE);
@@ -173,14 +171,12 @@ pub fn updated(
     starts: &[f32; ROWS],
     durations: &[f32; ROWS],
     marks: &mut [bool; ROWS],
-) -> Followed
-    requires { ⌜ (u .room .kinds ≤ 300) × (u .room .amounts ≤ 300) × (u .room .places ≤ 300) × (u .list ≤ 1000) ⌝ }
-{
+) -> Followed {
     let room = u.room;
-    let k = room.kinds;
-    let a = room.amounts;
-    let p = room.places;
-    let l = u.list;
+    let k = least(room.kinds, ROWS);
+    let a = least(room.amounts, ROWS);
+    let p = least(room.places, ROWS);
+    let l = least(u.list, LIST);
     let mut k2 = fresh_bytes();
     let mut a2 = fresh_floats(AMOUNT);
     let mut p2 = fresh_floats(PLACE);

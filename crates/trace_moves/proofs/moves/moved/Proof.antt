@@ -48,7 +48,7 @@ returns : tie.Need-returns
 returns c = search needs
 
 moved-requires : tie.Need-moved-requires
-moved-requires c κs = c .before .before .before .before .before .before .before .before .before .before .before .before .before .before .before .before .before .before .before .before .before .before .before .pre
+moved-requires c κs = search needs
 
 differs-requires : tie.Need-differs-requires
 differs-requires c κs = search needs

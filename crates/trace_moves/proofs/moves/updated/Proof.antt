@@ -57,7 +57,7 @@ update-requires-2 : tie.Need-update-requires-2
 update-requires-2 c κs = tt
 
 updated-requires : tie.Need-updated-requires
-updated-requires c κs = c .before .before .before .before .before .before .before .before .before .before .before .before .before .before .before .before .before .before .before .before .before .before .before .before .before .before .before .before .before .before .before .before .before .pre
+updated-requires c κs = search needs
 
 differs-requires : tie.Need-differs-requires
 differs-requires c κs = tt

@@ -5,6 +5,15 @@ use borrow.Author.Needs.{needs}
 use Rattle.trace_places.proofs.in_place.moved.Statement.{statement}
 use Rattle.trace_places.proofs.in_place.moved.Tie as tie
 
+least-requires : tie.Need-least-requires
+least-requires c κs = search needs
+
+least-requires-2 : tie.Need-least-requires-2
+least-requires-2 c κs = search needs
+
+least-requires-3 : tie.Need-least-requires-3
+least-requires-3 c κs = search needs
+
 fresh-bytes-requires : tie.Need-fresh-bytes-requires
 fresh-bytes-requires c κs = search needs
 
@@ -51,6 +60,9 @@ pub moved-spec : {M : Type 1} → statement M
 moved-spec =
     tie.close
     (tie.spec
+    least-requires
+    least-requires-2
+    least-requires-3
     fresh-bytes-requires
     fresh-floats-requires
     fresh-floats-requires-2
