@@ -1,6 +1,6 @@
 -- The calls of a script, made in place on what plays.
 use Prim.Native.Nat.{ℕ, _+_, _-_, _≤_}
-use mathlib.Core.Path.{_≡_, refl, sym, ap, _∙_}
+use mathlib.Core.Path.{_≡_, refl, sym, ap, subst, _∙_}
 use mathlib.Core.Bool.{Bool, true, false, cond, not, _||_}
 use mathlib.Core.List.{List, [], append-nil}
 use native.Mathlib.Omega.{arith}
@@ -25,7 +25,7 @@ use Rattle.call_log.specs.declared.calls.Outcome.{Outcome}
 use Rattle.call_log.specs.declared.Log.{Log}
 use Rattle.call_log.specs.Lines.{Called, shown, shownAll, lineSize, Wrote}
 use Rattle.call_log.specs.Logs.{callSize, listSize, replies, room, outcome, outcomeAt, callLine}
-use Rattle.call_log.specs.Machine.{Lends, Made, LogsTo, counted, isOver, nextLines, nextLog, nextBytes}
+use Rattle.call_log.specs.Machine.{Lends, MakesCall, Made, LogsTo, counted, isOver, nextLines, nextLog, nextBytes}
 use Rattle.call_log.proofs.Writing.{wrote-as}
 
 -- slices of 64 places are room for all entries
@@ -108,6 +108,10 @@ module _ (head : Playhead) (ss ds : List Float) (ms : List Bool) where
         track = ap (λ (d : Clock). left d ms) (e .2 ∙ ap (λ (x : Playhead). x .clock) w) ∙ u;
         list = sym (ap (λ (x : TrackOut). over (x .listed) l) s);
       }
+
+-- the call that the bytes make
+pub made-call : (k : Track) (rest : List ℕ) (r : Outcome) (q : Track) (l l′ : List ℕ) (byte : ℕ) (x : Float) → MakesCall rest byte x → Made (outcome k byte x) r q l l′ → Made (outcomeAt k rest) r q l l′
+made-call k rest r q l l′ byte x e m = subst (λ (o : TrackOut). Made o r q l l′) (sym (e k)) m
 
 -- ---- which call a byte makes
 

@@ -25,7 +25,7 @@ use Rattle.call_log.specs.declared.Logged.{Logged}
 use Rattle.call_log.specs.declared.Ran.{Ran}
 use Rattle.call_log.specs.declared.Batched.{Batched}
 use Rattle.call_log.specs.Lines.{Line, Refused, shown, shownAll, lineSize}
-use Rattle.call_log.specs.Logs.{maxSheet, lengthSize, sheetNumber, sheetLine, trackIn, callSize, listSize, replies, outcomeAt, callLine}
+use Rattle.call_log.specs.Logs.{maxSheet, lengthSize, sheetNumber, sheetLine, trackIn, callSize, listSize, replies, outcome, outcomeAt, callLine}
 
 -- ---- a call
 
@@ -36,6 +36,10 @@ pub record Lends (rs l k : List ℕ) (a p : List Float) : Type 0 where
   pub kinds : length k ≡ maxEntries
   pub amounts : length a ≡ maxEntries
   pub places : length p ≡ maxEntries
+
+-- these bytes make the call of this byte with this f32, whatever plays
+abbrev pub MakesCall : List ℕ → ℕ → Float → Type 0
+MakesCall rest byte x = (k : Track) → outcomeAt k rest ≡ outcome k byte x
 
 -- what a call answers, the track that it leaves in the columns, and the lent list before and after
 pub record Made (o : TrackOut) (r : Outcome) (left : Track) (old new : List ℕ) : Type 0 where

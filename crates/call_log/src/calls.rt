@@ -15,6 +15,12 @@ ghost use Rattle.call_log.specs.Machine.{Made, Lends};
 // How many completed entries an update can list.
 pub const LIST: usize = 256;
 
+// A call of a script: its byte and its f32.
+pub(crate) struct Call {
+    pub byte: u8,
+    pub x: f32,
+}
+
 // What a call answers, and the clock that it leaves.
 pub struct Outcome {
     pub refusal: u8,

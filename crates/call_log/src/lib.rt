@@ -3,8 +3,8 @@ mod calls;
 mod fields;
 mod lines;
 
+use calls::Call;
 use calls::LIST;
-use calls::Outcome;
 use digits::wide_usize;
 pub use fields::LINE;
 use refusal::ACCEPTED;
@@ -17,9 +17,8 @@ ghost use Prim.Native.Nat.{_+_, _<_, _≤_};
 ghost use lib.ListN.{length, take, drop};
 ghost use Rattle.sheet_format.specs.Words.{word};
 ghost use Rattle.call_log.specs.Lines.{Refused, shown, lineSize};
-ghost use Rattle.track.specs.Answers.{lentTrack, leftTrack};
-ghost use Rattle.call_log.specs.Logs.{isCut, callSize, outcomeAt};
-ghost use Rattle.call_log.specs.Machine.{Lends, Made, lentLog, leftLog, LogsTo, RunsTo, sheetRoom, closedLog, openLine, openedBy, counted, lined, leastBytes, batchOf, batchedBy};
+ghost use Rattle.call_log.specs.Logs.{isCut, callSize};
+ghost use Rattle.call_log.specs.Machine.{Lends, MakesCall, lentLog, leftLog, LogsTo, RunsTo, sheetRoom, closedLog, openLine, openedBy, counted, lined, leastBytes, batchOf, batchedBy};
 ghost use Rattle.call_log.specs.Claim.{Claim};
 
 // The longest sheet: 64 entries, with labels of 24 bytes.
@@ -27,6 +26,9 @@ pub const MAX_SHEET: usize = 2_572;
 
 // How many bytes a call has.
 pub const CALL: usize = 5;
+
+// A byte that is no call.
+const NO_CALL: u8 = 255;
 
 // A log: how many lines of calls it has, whether its sheet was accepted, and what plays, as the calls left it.
 pub struct Log {
@@ -293,9 +295,11 @@ fn next(
             head,
         };
     }
-    let made = made_at(
+    let call = call_at(rest);
+    let made = calls::make(
         head,
-        rest,
+        call.byte,
+        call.x,
         starts,
         durations,
         marks,
@@ -316,38 +320,20 @@ fn next(
     }
 }
 
-// The call at the front of the script.
-fn made_at(
-    head: Playhead,
-    rest: &[u8],
-    starts: &[f32],
-    durations: &[f32],
-    marks: &mut [bool],
-    replies: &[u8],
-    list: &mut [u8],
-    kinds: &mut [u8],
-    amounts: &mut [f32],
-    places: &mut [f32],
-) -> Outcome
-    requires { ⌜ Lends (now replies) (now list) (now kinds) (now amounts) (now places) ⌝ }
-    ensures { λ r. ⌜ Made (outcomeAt (lentTrack head starts durations marks) (now (rest .entry))) r (leftTrack head (r .clock) starts durations marks) (now (list .entry)) (now (list .exit)) ⌝ }
+// The call at the front of the script. Fewer bytes than a call has are none.
+fn call_at(rest: &[u8]) -> Call
+    ensures { λ r. ⌜ MakesCall (now (rest .entry)) (r .byte) (r .x) ⌝ }
 {
     if rest.len() < CALL {
-        return calls::unknown(head);
+        return Call {
+            byte: NO_CALL,
+            x: 0.0,
+        };
     }
-    calls::make(
-        head,
-        rest[0],
-        float32::from_bits(bits_of(rest)),
-        starts,
-        durations,
-        marks,
-        replies,
-        list,
-        kinds,
-        amounts,
-        places,
-    )
+    Call {
+        byte: rest[0],
+        x: float32::from_bits(bits_of(rest)),
+    }
 }
 
 // The bits of a call's f32.

@@ -9,6 +9,7 @@ use crate::same::same_bytes;
 use crate::same::same_clocks;
 use crate::same::same_floats;
 use crate::same::same_marks;
+use crate::same::same_queries;
 use case_io::text::BUFFER;
 use case_io::text::Sink;
 use clock::Clock;
@@ -79,17 +80,34 @@ pub fn moved(
     );
     let rows = same_rows(kinds, amounts, places, &k2, &a2, &p2);
     let same = both(rows, m.refusal == by_value.refusal);
-    follow(head, m.clock, by_value.timeline, &*marks, same)
+    follow(
+        head,
+        m.clock,
+        by_value.timeline,
+        starts,
+        durations,
+        &*marks,
+        same,
+    )
 }
 
-// The playhead with the clock that the call left, and whether clock and marks are the timeline's.
-fn follow(head: Playhead, clock: Clock, t: Timeline, marks: &[bool; ROWS], same: bool) -> Followed {
+// The playhead with the clock that the call left, and whether clock, marks and what can be asked of it are the timeline's.
+fn follow(
+    head: Playhead,
+    clock: Clock,
+    t: Timeline,
+    starts: &[f32; ROWS],
+    durations: &[f32; ROWS],
+    marks: &[bool; ROWS],
+    same: bool,
+) -> Followed {
     let track = t.track;
     let next = head.with_clock(clock);
     let left = both(same_clocks(clock, track.clock), same_marks(track, marks));
+    let asked = same_queries(next, track, starts, durations, marks);
     Followed {
         head: next,
-        same: both(same, left),
+        same: both(same, both(left, asked)),
     }
 }
 
@@ -196,7 +214,15 @@ pub fn updated(
     let rows = same_rows(kinds, amounts, places, &k2, &a2, &p2);
     let lent = both(rows, same_lists(list, &l2));
     let same = both(lent, same_answers(by_value, m));
-    follow(head, m.clock, by_value.timeline, &*marks, same)
+    follow(
+        head,
+        m.clock,
+        by_value.timeline,
+        starts,
+        durations,
+        &*marks,
+        same,
+    )
 }
 
 fn same_lists(list: &[u8; LIST], l2: &[u8; LIST]) -> bool {

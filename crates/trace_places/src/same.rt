@@ -4,6 +4,7 @@ use steps::MAX_ENTRIES;
 use steps::both;
 use steps::least;
 use trace_read::ROWS;
+use track::track::Playhead;
 use track::track::Track;
 ghost use Prim.Native.Nat.{_≤_};
 
@@ -49,6 +50,22 @@ pub(crate) fn same_clocks(a: Clock, b: Clock) -> bool {
 pub(crate) fn same_marks(track: Track, marks: &[bool; ROWS]) -> bool {
     let n = least(track.count, MAX_ENTRIES);
     both(marks_of(track, n, marks), all_true(n, marks))
+}
+
+// Base, run and progress of what plays in the columns are the track's.
+pub(crate) fn same_queries(
+    head: Playhead,
+    track: Track,
+    starts: &[f32],
+    durations: &[f32],
+    marks: &[bool],
+) -> bool {
+    let base = head.duration(starts, durations, marks);
+    let run = head.playback_duration(starts, durations, marks);
+    let progress = head.progress(starts, durations, marks);
+    let bases = same_float(base, track.duration());
+    let runs = same_float(run, track.playback_duration());
+    both(bases, both(runs, same_float(progress, track.progress())))
 }
 
 fn marks_of(track: Track, n: usize, marks: &[bool; ROWS]) -> bool
