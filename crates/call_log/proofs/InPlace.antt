@@ -20,6 +20,7 @@ use Rattle.track.specs.Claims.{putBack, restored}
 use Rattle.track.proofs.Columns.{length-entries}
 use Rattle.track.proofs.Marks.{over-over, over-part, take-over, over-all}
 use Rattle.track.proofs.Trimmed.{Sized, whole, step-sized}
+use Rattle.script.specs.Scripts.{outcomeIn}
 use Rattle.call_log.specs.declared.Log.{Log}
 use Rattle.call_log.specs.declared.Ran.{Ran}
 use Rattle.call_log.specs.Lines.{shownAll}
@@ -65,7 +66,7 @@ module _ (k q : Track) (s : Sized (trimmed k) q) where
   cond-back false x x′ y y′ e f = f
 
   outcome-back : (byte : ℕ) (x : Float) → Back (outcome (putBack k q) byte x) (outcome q byte x)
-  unfolding outcome
+  unfolding outcomeIn
   outcome-back byte x =
       cond-back (eqb byte 0) _ _ _ _ (step-back _)
       (cond-back (eqb byte 1) _ _ _ _ (step-back _)

@@ -1,4 +1,3 @@
 pub mod Lines
 pub mod Logs
 pub mod Machine
-pub mod Claim

@@ -11,7 +11,8 @@ use Rattle.steps.specs.Times.{maxEntries}
 use Rattle.clock.specs.Clocks.{letterOf}
 use Rattle.track.specs.Tracks.{live, trackBase, trackRun}
 use Rattle.track.specs.declared.track.Track.{Track}
-use Rattle.track.specs.Calls.{Room, SetTimeScale, Play, Pause, Resume, Reset, Seek, SeekAbs, Update, TrackOut, trackSilent, trackStep}
+use Rattle.track.specs.Calls.{Room, TrackOut, trackSilent}
+use Rattle.script.specs.Scripts.{outcomeIn}
 use Rattle.sheet_format.specs.Words.{byteAt, word}
 use Rattle.sheet.specs.Build.{readingOf}
 use Rattle.call_log.specs.Lines.{Line, Refused, Accepted, Called, shownAll}
@@ -65,18 +66,9 @@ replies = replicate maxEntries 1
 abbrev pub room : Room
 room = record { kinds = maxEntries; amounts = maxEntries; places = maxEntries }
 
--- What a call does to what plays: `trackStep`, by which crate timeline defines the same calls.
--- "0 play, 1 pause, 2 resume, 3 reset, 4 update, 5 seek, 6 seek_abs, 7 scale"; a call that is none leaves the track
-unfoldable pub outcome : Track → ℕ → Float → TrackOut
-outcome k byte x =
-    cond (eqb byte 0) (trackStep k (Play room))
-    (cond (eqb byte 1) (trackStep k Pause)
-    (cond (eqb byte 2) (trackStep k Resume)
-    (cond (eqb byte 3) (trackStep k (Reset room))
-    (cond (eqb byte 4) (trackStep k (Update x replies listSize room))
-    (cond (eqb byte 5) (trackStep k (Seek x room))
-    (cond (eqb byte 6) (trackStep k (SeekAbs x room))
-    (cond (eqb byte 7) (trackStep k (SetTimeScale x)) (trackSilent badCall k))))))))
+-- what a call does to what plays; a call that is none leaves the track
+abbrev pub outcome : Track → ℕ → Float → TrackOut
+outcome k byte x = outcomeIn replies listSize room k byte x
 
 -- the call at the front of what is left of the script; fewer bytes than a call has are no call
 unfoldable pub outcomeAt : Track → List ℕ → TrackOut

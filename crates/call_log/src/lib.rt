@@ -1,10 +1,7 @@
 // The door log (paper 01, "The door log program") as functions on slices: the line of the sheet, then a line for each call.
-mod calls;
 mod fields;
 mod lines;
 
-use calls::Call;
-use calls::LIST;
 use digits::wide_usize;
 pub use fields::LINE;
 use refusal::ACCEPTED;
@@ -19,7 +16,6 @@ ghost use Rattle.sheet_format.specs.Words.{word};
 ghost use Rattle.call_log.specs.Lines.{Refused, shown, lineSize};
 ghost use Rattle.call_log.specs.Logs.{isCut, callSize};
 ghost use Rattle.call_log.specs.Machine.{Lends, MakesCall, lentLog, leftLog, LogsTo, RunsTo, sheetRoom, closedLog, openLine, openedBy, counted, lined, leastBytes, batchOf, batchedBy};
-ghost use Rattle.call_log.specs.Claim.{Claim};
 
 // The longest sheet: 64 entries, with labels of 24 bytes.
 pub const MAX_SHEET: usize = 2_572;
@@ -27,8 +23,17 @@ pub const MAX_SHEET: usize = 2_572;
 // How many bytes a call has.
 pub const CALL: usize = 5;
 
+// How many completed entries an update can list.
+pub const LIST: usize = 256;
+
 // A byte that is no call.
 const NO_CALL: u8 = 255;
+
+// A call of a script: its byte and its f32.
+struct Call {
+    byte: u8,
+    x: f32,
+}
 
 // A log: how many lines of calls it has, whether its sheet was accepted, and what plays, as the calls left it.
 pub struct Log {
@@ -296,7 +301,7 @@ fn next(
         };
     }
     let call = call_at(rest);
-    let made = calls::make(
+    let made = script::make(
         head,
         call.byte,
         call.x,
@@ -350,8 +355,3 @@ fn counted(n: usize) -> usize
 {
     if n < usize::MAX { n + 1 } else { n }
 }
-
-// What is claimed of logs, as a contract: without it the crate is not proved.
-pub fn claimed()
-    ensures { λ r. ⌜ Claim ⌝ }
-{}

@@ -1,4 +1,4 @@
--- `pause`, `resume` and `set_time_scale` on a lent clock (crate clock) are calls of the lists too.
+-- `pause`, `resume` and `set_time_scale` on a lent clock (crate lent_clock) are calls of the lists too.
 use mathlib.Core.Path.{_≡_}
 use lib.Ieee.{Float}
 use Rattle.clock.specs.declared.Clock.{Clock}

@@ -13,7 +13,8 @@ use Rattle.steps.specs.Times.{maxEntries}
 use Rattle.label.specs.Label.{maxLabel, text, labelOf}
 use Rattle.label.proofs.Text.{text-whole}
 use Rattle.sheet_format.specs.Words.{byteAt, word, bytesOf}
-use Rattle.sheet_format.specs.Check.{headerSize, pairSize, recordSize, recordsAt, labelsAt, countIn, offsetIn, lengthIn, pairGood, pairsNumber, kindIn, targetIn, secondsIn, placementGood, zerosGood, recordNumber, recordsNumber}
+use Rattle.sheet_rules.specs.Rules.{headerSize, pairSize, recordSize, labelsAt, placementGood, zerosGood}
+use Rattle.sheet_format.specs.Check.{recordsAt, countIn, offsetIn, lengthIn, pairGood, pairsNumber, kindIn, targetIn, secondsIn, recordNumber, recordsNumber}
 use Rattle.sheet_format.specs.Descriptions.{blankItem, itemsIn, loopOf, partOf, itemOf, itemsFrom, sheetItems, descriptionIn}
 use Rattle.sheet_format.specs.Write.{headerBytes, textLength, pairOf, pairsOf, recordOf, recordsOf, textsOf, sheetOf, labelsGood, targetGood, targetsGood, describeNumber}
 use Rattle.sheet_format.proofs.Bytes.{Bytes, bytes-word}

@@ -22,7 +22,8 @@ use Rattle.sheet_format.specs.declared.description.Placement.{Placement}
 use Rattle.sheet_format.specs.declared.description.Placement.the-variants.{Absolute, Start, End, Label as Labeled, Offset}
 use Rattle.sheet_format.specs.declared.description.Item.{Item}
 use Rattle.sheet_format.specs.declared.description.Description.{Description}
-use Rattle.sheet_format.specs.Check.{headerSize, recordsAt, countIn, checkNumber}
+use Rattle.sheet_rules.specs.Rules.{headerSize}
+use Rattle.sheet_format.specs.Check.{recordsAt, countIn, checkNumber}
 use Rattle.sheet_format.specs.Descriptions.{itemsIn, descriptionIn}
 use Rattle.sheet_format.specs.Write.{labelsGood}
 use Rattle.sheet_format.proofs.Accepted.{accepted-sheet}

@@ -9,7 +9,7 @@ use Rattle.tween.specs.declared.loop_mode.Loop.{Loop}
 use Rattle.tween.specs.declared.loop_mode.Loop.the-variants.{Once, Times, Forever, PingPong, PingPongTimes}
 use Rattle.sheet_format.specs.declared.description.Placement.{Placement}
 use Rattle.sheet_format.specs.declared.description.Placement.the-variants.{Absolute, Start, End, Label as Labeled, Offset}
-use Rattle.sheet_format.specs.Check.{loopGood, placementGood, zerosGood}
+use Rattle.sheet_rules.specs.Rules.{loopGood, placementGood, zerosGood}
 use Rattle.sheet_format.specs.Descriptions.{loopOf, placementOf}
 use Rattle.sheet_format.specs.Write.{modeOf, numberOf, kindOf, targetOf, secondsOf, targetGood}
 use Rattle.steps.proofs.Tests.{and-true}

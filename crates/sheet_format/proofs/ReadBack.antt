@@ -12,7 +12,8 @@ use Rattle.label.specs.Label.{maxLabel, text}
 use Rattle.sheet_format.specs.declared.description.Item.{Item}
 use Rattle.sheet_format.specs.declared.description.Description.{Description}
 use Rattle.sheet_format.specs.Words.{byteAt, word, bytesOf}
-use Rattle.sheet_format.specs.Check.{headerSize, pairSize, recordSize, recordsAt, labelsAt, countIn, headerNumber, offsetIn, lengthIn, pairsNumber, kindIn, targetIn, secondsIn, durationIn, recordNumber, recordsNumber, checkNumber}
+use Rattle.sheet_rules.specs.Rules.{headerSize, pairSize, recordSize, labelsAt}
+use Rattle.sheet_format.specs.Check.{recordsAt, countIn, headerNumber, offsetIn, lengthIn, pairsNumber, kindIn, targetIn, secondsIn, durationIn, recordNumber, recordsNumber, checkNumber}
 use Rattle.sheet_format.specs.Descriptions.{describedBy, blankItem, itemsIn, loopOf, partOf, itemOf, itemsFrom, sheetItems, descriptionIn, cleanItem, cleaned}
 use Rattle.sheet_format.specs.Write.{modeOf, numberOf, kindOf, targetOf, secondsOf, headerBytes, textLength, pairOf, pairsOf, recordOf, recordsOf, textsOf, sheetOf, labelsGood, targetGood, targetsGood, describeNumber, ReadsBack}
 use Rattle.sheet_format.proofs.Bytes.{length-bytes, word-bytes}

@@ -11,7 +11,7 @@ use Rattle.refusal.specs.Refusal.{roomTooShort}
 use Rattle.steps.specs.Times.{maxEntries}
 use Rattle.tween.specs.declared.loop_mode.Loop.{Loop}
 use Rattle.sheet_format.specs.declared.description.Description.{Description}
-use Rattle.sheet_format.specs.Check.{headerSize, labelsAt}
+use Rattle.sheet_rules.specs.Rules.{headerSize, labelsAt}
 use Rattle.sheet_format.specs.Descriptions.{itemsIn}
 use Rattle.sheet_format.specs.Write.{headerBytes, textsOf, sheetOf, labelsGood, targetsGood, describeNumber, writeNumber, writtenBytes}
 use Rattle.sheet_format.proofs.Bytes.{length-bytes}

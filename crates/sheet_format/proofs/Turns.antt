@@ -15,7 +15,8 @@ use Rattle.label.specs.Label.{maxLabel, text, noLabel}
 use Rattle.sheet_format.specs.declared.description.Placement.{Placement}
 use Rattle.sheet_format.specs.declared.description.Placement.the-variants.{Absolute, Start, End, Label as Labeled, Offset}
 use Rattle.sheet_format.specs.declared.description.Item.{Item}
-use Rattle.sheet_format.specs.Check.{pairSize, recordSize, lengthIn, pairGood, pairsNumber, recordNumber, recordsNumber}
+use Rattle.sheet_rules.specs.Rules.{pairSize, recordSize}
+use Rattle.sheet_format.specs.Check.{lengthIn, pairGood, pairsNumber, recordNumber, recordsNumber}
 use Rattle.sheet_format.specs.Descriptions.{itemOf, itemsFrom}
 use Rattle.sheet_format.specs.Write.{textLength, targetOf, pairOf, pairsOf, recordOf, recordsOf, textsOf, labelsGood, targetGood, targetsGood}
 use Rattle.sheet_format.proofs.Bytes.{length-bytes}

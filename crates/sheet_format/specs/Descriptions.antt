@@ -14,7 +14,8 @@ use Rattle.sheet_format.specs.declared.description.Item.{Item}
 use Rattle.sheet_format.specs.declared.description.Description.{Description}
 use Rattle.sheet_format.specs.declared.description.Described.{Described}
 use Rattle.sheet_format.specs.Words.{byteAt, word}
-use Rattle.sheet_format.specs.Check.{headerSize, pairSize, recordSize, recordsAt, countIn, offsetIn, lengthIn, kindIn, targetIn, secondsIn, durationIn, checkNumber}
+use Rattle.sheet_rules.specs.Rules.{headerSize, pairSize, recordSize}
+use Rattle.sheet_format.specs.Check.{recordsAt, countIn, offsetIn, lengthIn, kindIn, targetIn, secondsIn, durationIn, checkNumber}
 
 -- ---- descriptions
 

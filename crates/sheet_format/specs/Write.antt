@@ -16,7 +16,7 @@ use Rattle.sheet_format.specs.declared.description.Item.{Item}
 use Rattle.sheet_format.specs.declared.description.Description.{Description}
 use Rattle.sheet_format.specs.declared.writing.Written.{Written}
 use Rattle.sheet_format.specs.Words.{bytesOf}
-use Rattle.sheet_format.specs.Check.{refusedIf, labelsAt}
+use Rattle.sheet_rules.specs.Rules.{labelsAt, refusedIf}
 use Rattle.sheet_format.specs.Descriptions.{itemsIn, describedBy, cleaned}
 
 -- ---- the bytes

@@ -1,8 +1,5 @@
 // What a sheet describes, with floats as raw bits.
 use crate::checks::check;
-use crate::header::HEADER_SIZE;
-use crate::header::PAIR_SIZE;
-use crate::header::RECORD_SIZE;
 use crate::header::loop_of;
 use crate::header::records_at;
 use crate::pairs::part_at;
@@ -12,6 +9,9 @@ use label::Label;
 use label::MAX_LABEL;
 use label::label_of;
 use refusal::ACCEPTED;
+use sheet_rules::HEADER_SIZE;
+use sheet_rules::PAIR_SIZE;
+use sheet_rules::RECORD_SIZE;
 use steps::MAX_ENTRIES;
 use tween::Loop;
 ghost use mathlib.Core.Path.{_≡_};
@@ -19,7 +19,8 @@ ghost use mathlib.Core.List.{_++_};
 ghost use Prim.Native.Nat.{_+_, _-_, _≤_};
 ghost use lib.ListN.{length, drop, replicate};
 ghost use Rattle.steps.specs.Times.{maxEntries};
-ghost use Rattle.sheet_format.specs.Check.{headerSize, pairSize, recordSize, recordsAt, labelsAt, countIn};
+ghost use Rattle.sheet_rules.specs.Rules.{headerSize, pairSize, recordSize, labelsAt};
+ghost use Rattle.sheet_format.specs.Check.{recordsAt, countIn};
 ghost use Rattle.sheet_format.specs.Descriptions.{blankItem, emptyDescription, itemOf, itemsFrom, descriptionIn, describedBy};
 
 // Where an entry starts. Seconds are the bits of an f32; the label case carries the number of an entry of the sheet.

@@ -2,31 +2,21 @@
 use crate::words::put_four;
 use crate::words::put_u32;
 use crate::words::u32_at;
-use refusal::ACCEPTED;
-use refusal::SHEET_COUNT;
 use refusal::SHEET_LENGTH;
-use refusal::SHEET_LOOP;
-use refusal::SHEET_VERSION;
-use refusal::SHEET_ZERO;
-use steps::MAX_ENTRIES;
+use sheet_rules::HEADER_SIZE;
+use sheet_rules::PAIR_SIZE;
+use sheet_rules::RECORD_SIZE;
+use sheet_rules::VERSION;
+use sheet_rules::header_refusal;
 use tween::Loop;
 ghost use mathlib.Core.Path.{_≡_};
 ghost use Prim.Native.Nat.{_≤_};
 ghost use lib.ListN.{length};
 ghost use Rattle.digits.specs.Digits.{putAt};
-ghost use Rattle.sheet_format.specs.Check.{headerSize, recordsAt, labelsAt, loopGood, headerNumber};
+ghost use Rattle.sheet_rules.specs.Rules.{headerSize, labelsAt};
+ghost use Rattle.sheet_format.specs.Check.{recordsAt, headerNumber};
 ghost use Rattle.sheet_format.specs.Descriptions.{loopOf};
 ghost use Rattle.sheet_format.specs.Write.{modeOf, numberOf, headerBytes};
-
-// Bytes of the header, of a pair and of a record.
-pub const HEADER_SIZE: usize = 12;
-
-pub const PAIR_SIZE: usize = 4;
-
-pub const RECORD_SIZE: usize = 12;
-
-// The one version that there is.
-const VERSION: u8 = 1;
 
 // Where the records of n entries start.
 pub(crate) fn records_at(n: usize) -> usize
@@ -44,22 +34,6 @@ pub(crate) fn labels_at(n: usize) -> usize
     HEADER_SIZE + (PAIR_SIZE + RECORD_SIZE) * n
 }
 
-// Whether there is such a mode, and the number is 0 where the mode takes none.
-fn loop_good(mode: u8, number: u32) -> bool
-    ensures { λ r. ⌜ r ≡ loopGood mode number ⌝ }
-{
-    if mode > 4 {
-        return false;
-    }
-    if mode == 1 {
-        return true;
-    }
-    if mode == 4 {
-        return true;
-    }
-    number == 0
-}
-
 // The number by which the header is refused; where it is accepted, all pairs and records are in the sheet.
 pub(crate) fn check_header(sheet: &[u8]) -> u8
     ensures { λ r. ⌜ r ≡ headerNumber (now (sheet .entry)) ⌝ }
@@ -67,23 +41,8 @@ pub(crate) fn check_header(sheet: &[u8]) -> u8
     if sheet.len() < HEADER_SIZE {
         return SHEET_LENGTH;
     }
-    if sheet[0] != VERSION {
-        return SHEET_VERSION;
-    }
-    if sheet[3] != 0 {
-        return SHEET_ZERO;
-    }
-    let n = sheet[1] as usize;
-    if n > MAX_ENTRIES {
-        return SHEET_COUNT;
-    }
-    if !loop_good(sheet[2], u32_at(sheet, 4)) {
-        return SHEET_LOOP;
-    }
-    if sheet.len() < labels_at(n) {
-        return SHEET_LENGTH;
-    }
-    ACCEPTED
+    let number = u32_at(sheet, 4);
+    header_refusal(sheet.len(), sheet[0], sheet[1], sheet[2], sheet[3], number)
 }
 
 // The mode that a mode byte and a loop number say.

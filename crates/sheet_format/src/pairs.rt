@@ -1,15 +1,15 @@
 // The pairs: where each label starts, and how long it is.
 use crate::description::Item;
-use crate::header::HEADER_SIZE;
-use crate::header::PAIR_SIZE;
 use crate::header::labels_at;
 use crate::words::put_u16;
 use crate::words::u16_at;
-use label::MAX_LABEL;
 use label::text_len;
 use refusal::ACCEPTED;
 use refusal::SHEET_LENGTH;
 use refusal::SHEET_PAIR;
+use sheet_rules::HEADER_SIZE;
+use sheet_rules::PAIR_SIZE;
+use sheet_rules::pair_fits;
 use steps::MAX_ENTRIES;
 use steps::least;
 ghost use mathlib.Core.Path.{_≡_};
@@ -17,7 +17,8 @@ ghost use Prim.Native.Nat.{_+_, _<_, _≤_};
 ghost use lib.ListN.{length, take, drop};
 ghost use Rattle.steps.specs.Times.{maxEntries};
 ghost use Rattle.digits.specs.Digits.{putAt};
-ghost use Rattle.sheet_format.specs.Check.{headerSize, pairSize, labelsAt, lengthIn, pairGood, pairsNumber};
+ghost use Rattle.sheet_rules.specs.Rules.{headerSize, pairSize, labelsAt};
+ghost use Rattle.sheet_format.specs.Check.{lengthIn, pairGood, pairsNumber};
 ghost use Rattle.sheet_format.specs.Descriptions.{partOf};
 ghost use Rattle.sheet_format.specs.Write.{pairOf, pairsOf};
 
@@ -26,10 +27,8 @@ fn pair_good(sheet: &[u8], at: usize, offset: usize) -> bool
     requires { ⌜ at + pairSize ≤ length (now sheet) ⌝ }
     ensures { λ r. ⌜ r ≡ pairGood offset (drop at (now (sheet .entry))) ⌝ }
 {
-    if u16_at(sheet, at) as usize != offset {
-        return false;
-    }
-    length_at(sheet, at) <= MAX_LABEL
+    let start = u16_at(sheet, at) as usize;
+    pair_fits(offset, start, length_at(sheet, at))
 }
 
 // The length of the pair at `at`.

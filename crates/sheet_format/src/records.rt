@@ -1,14 +1,13 @@
 // The records: where each entry is placed, and how long it is.
 use crate::description::Item;
 use crate::description::Placement;
-use crate::header::RECORD_SIZE;
 use crate::header::records_at;
 use crate::words::put_four;
 use crate::words::put_u32;
 use crate::words::u32_at;
 use refusal::ACCEPTED;
-use refusal::SHEET_PLACEMENT;
-use refusal::SHEET_ZERO;
+use sheet_rules::RECORD_SIZE;
+use sheet_rules::record_refusal;
 use steps::MAX_ENTRIES;
 ghost use mathlib.Core.Path.{_≡_};
 ghost use mathlib.Core.Bool.{true};
@@ -16,41 +15,10 @@ ghost use Prim.Native.Nat.{_+_, _<_, _≤_};
 ghost use lib.ListN.{length, take, drop};
 ghost use Rattle.steps.specs.Times.{maxEntries};
 ghost use Rattle.digits.specs.Digits.{putAt};
-ghost use Rattle.sheet_format.specs.Check.{recordSize, recordsAt, labelsAt, placementGood, zerosGood, recordNumber, recordsNumber};
+ghost use Rattle.sheet_rules.specs.Rules.{recordSize, labelsAt};
+ghost use Rattle.sheet_format.specs.Check.{recordsAt, recordNumber, recordsNumber};
 ghost use Rattle.sheet_format.specs.Descriptions.{placementOf};
 ghost use Rattle.sheet_format.specs.Write.{kindOf, targetOf, secondsOf, recordOf, recordsOf, targetsGood};
-
-// Whether there is such a kind, and the target is one of n entries for kind 3, else 0.
-fn placement_good(n: usize, kind: u8, target: u8) -> bool
-    ensures { λ r. ⌜ r ≡ placementGood n kind target ⌝ }
-{
-    if kind > 4 {
-        return false;
-    }
-    if kind == 3 {
-        return (target as usize) < n;
-    }
-    target == 0
-}
-
-// Whether the two bytes are 0, and the seconds bits where the kind has none.
-fn zeros_good(kind: u8, first: u8, second: u8, seconds: u32) -> bool
-    ensures { λ r. ⌜ r ≡ zerosGood kind first second seconds ⌝ }
-{
-    if first != 0 {
-        return false;
-    }
-    if second != 0 {
-        return false;
-    }
-    if kind == 0 {
-        return true;
-    }
-    if kind == 4 {
-        return true;
-    }
-    seconds == 0
-}
 
 // The number by which the record at `at` of a sheet of n entries is refused.
 fn check_record(sheet: &[u8], at: usize, n: usize) -> u8
@@ -58,13 +26,8 @@ fn check_record(sheet: &[u8], at: usize, n: usize) -> u8
     ensures { λ r. ⌜ r ≡ recordNumber n (drop at (now (sheet .entry))) ⌝ }
 {
     let record = &sheet[at..];
-    if !placement_good(n, record[0], record[1]) {
-        return SHEET_PLACEMENT;
-    }
-    if !zeros_good(record[0], record[2], record[3], u32_at(record, 4)) {
-        return SHEET_ZERO;
-    }
-    ACCEPTED
+    let seconds = u32_at(record, 4);
+    record_refusal(n, record[0], record[1], record[2], record[3], seconds)
 }
 
 // The records of n entries, in turn.

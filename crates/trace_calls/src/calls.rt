@@ -63,15 +63,15 @@ fn lends(number: usize) -> bool {
 fn steer_lent(byte: u32, t: Timeline) -> Timeline {
     let track = t.track;
     if byte == 1 {
-        return with_clock(t, clock::lend_pause(track.clock));
+        return with_clock(t, lent_clock::lend_pause(track.clock));
     }
-    with_clock(t, clock::lend_resume(track.clock))
+    with_clock(t, lent_clock::lend_resume(track.clock))
 }
 
 fn scaled(number: usize, t: Timeline, scale: f32) -> Timeline {
     if lends(number) {
         let track = t.track;
-        return with_clock(t, clock::lend_set_time_scale(track.clock, scale));
+        return with_clock(t, lent_clock::lend_set_time_scale(track.clock, scale));
     }
     t.set_time_scale(scale)
 }

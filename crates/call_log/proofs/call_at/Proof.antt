@@ -3,12 +3,13 @@ use mathlib.Core.Path.{refl}
 use borrow.Author.Needs.{needs}
 use borrow.Author.Tests.{lt-ltb, le-ltb}
 use Rattle.track.specs.declared.track.Track.{Track}
-use Rattle.call_log.specs.Logs.{outcome, outcomeAt}
+use Rattle.script.specs.Scripts.{outcomeIn}
+use Rattle.call_log.specs.Logs.{outcomeAt}
 use Rattle.call_log.proofs.call_at.Statement.{statement}
 use Rattle.call_log.proofs.call_at.Tie as tie
 
 returns : tie.Need-returns
-unfolding outcome outcomeAt
+unfolding outcomeIn outcomeAt
 returns c = λ (k : Track). rw (lt-ltb _ _ (c .if1 .taken))
 
 shared-slice-read-t5 : tie.Need-shared-slice-read-t5

@@ -33,7 +33,7 @@ called-requires c κs =
     let a = start .args in
     let t = trackOf (a .head) (a .starts .now) (a .durations .now) (a .marks .now) in
     let r = c .before .before .before .before .before .before .before .before .before .before .before .before .before .before .make .result in
-    let made = made-call t (a .rest .now) r _ (a .list .now) _ _ _ (c .before .before .before .before .before .before .before .before .before .before .before .before .before .before .before .before .before .before .before .before .call-at .ensures) (c .before .before .before .before .before .before .before .before .before .before .before .before .before .before .make .ensures) in
+    let made = made-call t (a .rest .now) r _ (a .replies .now) (a .list .now) _ (a .kinds .now) _ (a .amounts .now) _ (a .places .now) _ _ _ (start .pre .0) (c .before .before .before .before .before .before .before .before .before .before .before .before .before .before .before .before .before .before .before .before .call-at .ensures) (c .before .before .before .before .before .before .before .before .before .before .before .before .before .before .make .ensures) in
     let count = list-count t (a .rest .now) r _ (a .list .now) _ (start .pre .0 .list) made in
     let size = list-size t (a .rest .now) r _ (a .list .now) _ (start .pre .0 .list) made in
     (count, omega arith, start .pre .1)
@@ -68,7 +68,7 @@ returns-3 c =
     let a = start .args in
     let t = trackOf (a .head) (a .starts .now) (a .durations .now) (a .marks .now) in
     let r = c .before .before .before .before .before .before .before .before .before .before .before .before .before .before .before .before .before .before .make .result in
-    let made = made-call t (a .rest .now) r _ (a .list .now) _ _ _ (c .before .before .before .before .before .before .before .before .before .before .before .before .before .before .before .before .before .before .before .before .before .before .before .before .call-at .ensures) (c .before .before .before .before .before .before .before .before .before .before .before .before .before .before .before .before .before .before .make .ensures) in
+    let made = made-call t (a .rest .now) r _ (a .replies .now) (a .list .now) _ (a .kinds .now) _ (a .amounts .now) _ (a .places .now) _ _ _ (start .pre .0) (c .before .before .before .before .before .before .before .before .before .before .before .before .before .before .before .before .before .before .before .before .before .before .before .before .call-at .ensures) (c .before .before .before .before .before .before .before .before .before .before .before .before .before .before .before .before .before .before .make .ensures) in
     let called = c .before .before .before .called in
     logs-one (a .number) (a .logging) (a .head) (a .starts .now) (a .durations .now) (a .marks .now) _ (a .rest .now) r _ (a .list .now) _ _ (a .at) _ (a .out .now) _
     (rw (c .before .before .before .before .before .before .before .before .before .before .before .before .before .before .before .before .before .before .before .before .before .before .before .before .before .before .if1 .left, ne-eqb (length (a .rest .now)) 0 (c .before .before .before .before .before .before .before .before .before .before .before .before .before .before .before .before .before .before .before .before .before .before .before .before .before .if2 .left))) (start .pre .0 .list) made (c .before .before .before .before .before .before .before .counted .ensures) (c .with-clock .ensures) (called .ensures .0) (called .ensures .1)

@@ -6,7 +6,8 @@ use borrow.Author.Needs.{needs}
 use lib.ListN.{drop, replicate}
 use Rattle.steps.specs.Times.{maxEntries}
 use Rattle.sheet_format.specs.declared.description.Item.{Item}
-use Rattle.sheet_format.specs.Check.{headerSize, recordsAt}
+use Rattle.sheet_rules.specs.Rules.{headerSize}
+use Rattle.sheet_format.specs.Check.{recordsAt}
 use Rattle.sheet_format.specs.Descriptions.{blankItem, itemsFrom}
 use Rattle.sheet_format.proofs.Filling.{Filled, none-filled, one-filled, all-filled}
 use Rattle.sheet_format.proofs.Turns.{items-more, items-end}

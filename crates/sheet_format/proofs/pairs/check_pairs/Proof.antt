@@ -5,7 +5,8 @@ use Prim.Native.Nat.{_+_, _*_, _-_, _≤_}
 use native.Mathlib.Omega.{arith}
 use borrow.Author.Tests.{not-true, not-false, eq-eqb, ne-eqb}
 use lib.ListN.{length, drop}
-use Rattle.sheet_format.specs.Check.{headerSize, labelsAt, pairsNumber}
+use Rattle.sheet_rules.specs.Rules.{headerSize, labelsAt}
+use Rattle.sheet_format.specs.Check.{pairsNumber}
 use Rattle.sheet_format.proofs.Turns.{pairs-bad, pairs-more, pairs-end}
 use Rattle.sheet_format.proofs.pairs.check_pairs.Statement.{statement}
 use Rattle.sheet_format.proofs.pairs.check_pairs.Tie as tie

@@ -7,7 +7,7 @@ use lib.ListN.{length, drop, take, length-take}
 use Rattle.steps.specs.Times.{maxEntries}
 use Rattle.steps.proofs.Lists.{unmapped}
 use Rattle.digits.specs.Digits.{putAt}
-use Rattle.sheet_format.specs.Check.{headerSize, labelsAt}
+use Rattle.sheet_rules.specs.Rules.{headerSize, labelsAt}
 use Rattle.sheet_format.specs.Write.{pairsOf}
 use Rattle.sheet_format.proofs.Stores.{Left, all-left}
 use Rattle.sheet_format.proofs.Turns.{length-pairs}

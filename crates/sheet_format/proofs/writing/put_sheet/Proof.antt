@@ -1,5 +1,5 @@
 -- Header, pairs, records and labels, one after the other.
-use Rattle.sheet_format.specs.Check.{labelsAt}
+use Rattle.sheet_rules.specs.Rules.{labelsAt}
 use Rattle.sheet_format.specs.Write.{headerBytes, pairsOf, recordsOf, textsOf, sheetOf}
 use Rattle.sheet_format.proofs.Sheets.{described, fitting, length-header}
 use mathlib.Core.Path.{_≡_, _∙_}

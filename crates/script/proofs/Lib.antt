@@ -1,0 +1,2 @@
+-- Laws of the calls of a script.
+pub mod Making
