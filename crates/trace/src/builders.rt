@@ -9,7 +9,7 @@ use group::sequence::Sequenced;
 use steps::least;
 use timeline::timeline::Timeline;
 use trace_calls::calls;
-use trace_moves::run::Run;
+use trace_places::run::Run;
 use trace_read::Cursor;
 use trace_read::ITEMS;
 use trace_read::Item;

@@ -6,7 +6,7 @@ use timeline::introspection::AnimationIntrospection;
 use timeline::introspection::AnimationKind;
 use timeline::introspection::Duration;
 use timeline::introspection::PlaybackState;
-use trace_moves::run::Run;
+use trace_places::run::Run;
 
 // Call 12: introspect.
 pub(crate) fn timeline(buffer: &mut [u8; BUFFER], run: Run) -> Run {

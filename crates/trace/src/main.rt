@@ -13,7 +13,7 @@ use case_io::text::BUFFER;
 use case_io::text::Sink;
 use trace_calls::calls;
 use trace_moves::moves;
-use trace_moves::run::Run;
+use trace_places::run::Run;
 use trace_read::Cursor;
 use trace_read::ROWS;
 

@@ -1,5 +1,4 @@
 // The calls that move what plays: the operands are read, the call is made by value and in place, and its lines are printed.
-use crate::run::Run;
 use case_io::text::BUFFER;
 use group::group::AnimationGroup;
 use timeline::timeline::Moved;
@@ -11,6 +10,7 @@ use trace_places::fresh::fresh_floats;
 use trace_places::fresh::fresh_list;
 use trace_places::in_place;
 use trace_places::in_place::differs;
+use trace_places::run::Run;
 use trace_read::ROWS;
 use trace_read::Room;
 use trace_read::Update;

@@ -1,8 +1,8 @@
--- `trace_moves::run::spoil` is safe and ends. The measure is the places that are left.
+-- `trace_places::run::spoil` is safe and ends. The measure is the places that are left.
 use Prim.Native.Nat.{_≤_, _-_}
 use native.Mathlib.Omega.{arith}
-use Rattle.trace_moves.proofs.run.spoil.Statement.{statement}
-use Rattle.trace_moves.proofs.run.spoil.Tie as tie
+use Rattle.trace_places.proofs.run.spoil.Statement.{statement}
+use Rattle.trace_places.proofs.run.spoil.Tie as tie
 
 abbrev Inv-loop : tie.InvT-loop
 Inv-loop starts₀ durations₀ marks₀ i₀ starts durations marks i = i ≤ 300
