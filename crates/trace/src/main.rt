@@ -1,12 +1,13 @@
 // Runs scripts of calls on timelines and prints what each call leaves, so that it can be compared with what the Rust leaves.
 //
 // Standard input is as case_io says. Its records are scripts of calls, each a call byte (trace_moves, trace_calls, introspect.rt,
-// builders.rt) and its operands (trace_read). What moves or steers is made in place, too (trace_moves): where that leaves another
+// reverse.rt, builders.rt) and its operands (trace_read). What moves or steers is made in place, too (trace_moves): where that leaves another
 // answer, the line `differs` is written. Each script starts from the empty timeline. For each call a line is written, and then lines of what it
 // sent, listed or answered (trace_lines). A call whose operands run past the script or are not allowed, and an unknown one, is not
 // made: the line `cut` is written, and the rest of the script is passed over.
 mod builders;
 mod introspect;
+mod reverse;
 
 use case_io::input;
 use case_io::text::BUFFER;
@@ -102,10 +103,6 @@ fn next(
         1 | 2 | 7 | 10 | 15 => calls::make(script, buffer, r),
         12 => introspect::timeline(buffer, r),
         13 => introspect::group(buffer, r),
-        14 => {
-            let left = moves::make(script, buffer, &*starts, &*durations, marks, r);
-            left.laid_out(starts, durations, marks)
-        }
         _ => {
             let left = build(script, buffer, r);
             left.laid_out(starts, durations, marks)
@@ -113,10 +110,11 @@ fn next(
     }
 }
 
-// Calls that add entries or build a timeline; an unknown one is cut.
+// Calls that add entries or build a timeline, and a group's reverse; an unknown one is cut.
 fn build(script: &[u8], buffer: &mut [u8; BUFFER], r: Run) -> Run {
     let byte = r.byte;
     match byte {
+        14 => reverse::reversing(script, buffer, r),
         16 | 17 | 18 | 19 => builders::building(script, buffer, r),
         20 => builders::sequencing(script, buffer, r),
         _ => calls::make(script, buffer, r),

@@ -1,6 +1,5 @@
 // The calls that move what plays: the operands are read, the call is made by value and in place, and its lines are printed.
 use case_io::text::BUFFER;
-use group::group::AnimationGroup;
 use timeline::timeline::Moved;
 use timeline::timeline::Timeline;
 use trace_places::fresh::AMOUNT;
@@ -33,7 +32,7 @@ pub fn make(
     moving(script, buffer, starts, durations, marks, run)
 }
 
-// Calls 0, 3, 5, 6, 11 and 14: play, reset, seek, seek_abs, preview and a group's reverse.
+// Calls 0, 3, 5, 6 and 11: play, reset, seek, seek_abs and preview.
 fn moving(
     script: &[u8],
     buffer: &mut [u8; BUFFER],
@@ -54,7 +53,7 @@ fn moving(
 
 // Seeks and previews are told where or how far.
 fn has_place(byte: u32) -> bool {
-    byte > 3 && byte < 14
+    byte > 3
 }
 
 fn moved(
@@ -84,9 +83,6 @@ fn moved(
     );
     let s = run.line(buffer, m.refusal, m.timeline);
     let s = trace_lines::rows(s, buffer, &kinds, &amounts, &places, room);
-    if run.byte == 14 {
-        return run.after(room.next, s, m.timeline);
-    }
     let f = in_place::moved(
         run.byte,
         run.head,
@@ -116,8 +112,7 @@ fn move_by(
         0 => t.play(kinds, amounts, places),
         3 => t.reset(kinds, amounts, places),
         5 | 6 => seek_by(byte, t, to, kinds, amounts, places),
-        11 => preview_by(t, to, kinds, amounts, places),
-        _ => reverse(t, kinds, amounts, places),
+        _ => preview_by(t, to, kinds, amounts, places),
     }
 }
 
@@ -146,17 +141,6 @@ fn preview_by(
     Moved {
         refusal,
         timeline: t,
-    }
-}
-
-// The reverse of the group around the timeline.
-fn reverse(t: Timeline, kinds: &mut [u8], amounts: &mut [f32], places: &mut [f32]) -> Moved {
-    let group = AnimationGroup::from_timeline(t);
-    let m = group.reverse(kinds, amounts, places);
-    let moved = m.group;
-    Moved {
-        refusal: m.refusal,
-        timeline: moved.timeline(),
     }
 }
 

@@ -41,12 +41,6 @@ line-requires c κs = search needs
 rows-requires : tie.Need-rows-requires
 rows-requires c κs = search needs
 
-after-requires : tie.Need-after-requires
-after-requires c κs = search needs
-
-returns : tie.Need-returns
-returns c = search needs
-
 moved-requires : tie.Need-moved-requires
 moved-requires c κs = search needs
 
@@ -56,8 +50,8 @@ differs-requires c κs = search needs
 after-both-requires : tie.Need-after-both-requires
 after-both-requires c κs = search needs
 
-returns-2 : tie.Need-returns-2
-returns-2 c = search needs
+returns : tie.Need-returns
+returns c = search needs
 
 pub moved-spec : {M : Type 1} → statement M
 moved-spec =
@@ -75,9 +69,7 @@ moved-spec =
     move-by-requires
     line-requires
     rows-requires
-    after-requires
-    returns
     moved-requires
     differs-requires
     after-both-requires
-    returns-2)
+    returns)
