@@ -3,6 +3,7 @@
 mod answer;
 mod bench;
 mod call;
+mod captions;
 mod cases;
 mod checked;
 mod damage;
@@ -10,6 +11,7 @@ mod debug;
 mod door;
 mod floats;
 mod leaf;
+mod lists;
 mod outputs;
 mod pipe;
 mod port;
@@ -26,6 +28,7 @@ mod tally;
 mod trace;
 mod traces;
 mod twins;
+mod venue;
 
 use port::Port;
 use scripts::Kinds;
@@ -45,6 +48,8 @@ const USAGE: &str = "usage:
   oracle outputs [--seed N] [--runs N] [--least N] [--launcher FILE]
   oracle door-log
   oracle door-bench [--calls N] [--rounds N]
+  oracle captions [--seed N] [--cases N] [--least N] [--port COMMAND]
+  oracle caption-answers
   oracle bench
 KINDS: all, no-builders, no-update, or call bytes with commas between them";
 
@@ -124,6 +129,16 @@ fn run(words: &[&str]) -> Result<(), String> {
             let calls = options.number("--calls", 1_000_000)?;
             door::bench(calls as u32, options.number("--rounds", 5)?)
         }
+        "captions" => {
+            let options = Options::read(words, &["--seed", "--cases", "--least", "--port"])?;
+            captions::compare(&captions::Options {
+                seed: options.number("--seed", 1)?,
+                cases: options.number("--cases", 250_000)?,
+                least: options.number("--least", 0)?,
+                port: Port(options.get("--port").map(String::from)),
+            })
+        }
+        "caption-answers" => Options::read(words, &[]).and_then(|_| captions::write_answers()),
         "bench" => Options::read(words, &[]).and_then(|_| bench::run()),
         _ => Err(USAGE.into()),
     }

@@ -104,6 +104,12 @@ pub fn read(sheet: &[u8]) -> Result<Described, u8> {
     })
 }
 
+/// Where the labels of an accepted sheet stand, as offset and length; or the number that refuses it.
+pub fn label_places(sheet: &[u8]) -> Result<Vec<(usize, usize)>, u8> {
+    let n = read(sheet)?.entries.len();
+    pairs(sheet, n).map(|(pairs, _)| pairs)
+}
+
 /// "2 mode (order of part 2)", "4 to 7 loop number".
 fn mode(byte: u8, number: u32) -> Result<Mode, u8> {
     match (byte, number) {
@@ -319,6 +325,8 @@ mod tests {
     fn the_paper_s_example() {
         assert_eq!(read(&EXAMPLE), Ok(described()));
         assert_eq!(write(&described()), EXAMPLE);
+        assert_eq!(label_places(&EXAMPLE), Ok(vec![(44, 1), (45, 1)]));
+        assert_eq!(label_places(&EXAMPLE[..45]), Err(7));
     }
 
     /// "First line: `sheet`, refusal, count, base bits, run bits": 3fc00000 is 1.5.
