@@ -3,11 +3,12 @@
 
 use crate::damage;
 use crate::lists;
-use crate::port::Port;
+use crate::port::{self, Port};
 use crate::reader;
 use crate::rng::Rng;
 use crate::venue::{self, Caption, Code, Source};
 use std::fmt::Write as _;
+use std::fs;
 use std::io::{self, Read, Write as _};
 
 const PROGRAM: &str = "caption_cases";
@@ -772,6 +773,90 @@ fn shown(case: &Case, expected: &str, output: &[u8]) -> String {
     )
 }
 
+// The sample
+
+/// Random cases of the sample, and the longest record of them.
+const SAMPLED: usize = 120;
+const SAMPLED_BYTES: usize = 200;
+
+/// Good and damaged ones, of every kind that short records have.
+fn sample() -> Vec<Case> {
+    let (sheets, small) = (lists::sheets(), lists::small());
+    let mut cases = Vec::new();
+    for sheet in &sheets {
+        for words in &small {
+            let list = lists::write(words);
+            cases.extend((0..count(sheet)).map(|entry| Case::new(&list, sheet, entry)));
+        }
+        let list = lists::write(&small[2]);
+        let entries = entries(count(sheet)).into_iter();
+        cases.extend(entries.map(|entry| Case::new(&list, sheet, entry)));
+    }
+    let of_64 = lists::sheet_of_64();
+    cases.extend([0, 24, 63, 64].map(|entry| Case::new(&lists::write(&small[0]), &of_64, entry)));
+    for words in [&small[1], &small[6], &small[8]] {
+        let good = lists::write(words);
+        let faults = lists::fields(&good);
+        let mut bad: Vec<Vec<u8>> = faults.iter().map(|fault| fault.applied(&good)).collect();
+        bad.extend(lists::misshapen(words));
+        let numbered = (0..).zip(bad);
+        cases.extend(numbered.map(|(number, list)| Case::new(&list, &sheets[3], number % 3)));
+    }
+    cases.extend(sampled_sheets(&sheets[2]));
+    let mut rng = Rng::new(1);
+    let random = std::iter::repeat_with(|| random(&mut rng));
+    let random = random.filter(|case| case.record().len() <= SAMPLED_BYTES);
+    cases.extend(random.take(SAMPLED));
+    cases
+}
+
+/// Each field of the sheet damaged, with a good list or a bad one; and for each number one such sheet with
+/// either list, and with an entry that is there and one that is not.
+fn sampled_sheets(sheet: &[u8]) -> Vec<Case> {
+    let good = lists::write(&lists::small()[8]);
+    let bad = [&good[..], &[0]].concat();
+    let faults = damage::fields(sheet);
+    let damaged: Vec<Vec<u8>> = faults.iter().map(|fault| fault.applied(sheet)).collect();
+    let numbered = (0..).zip(&damaged);
+    let mut cases: Vec<Case> = numbered
+        .map(|(number, damaged)| {
+            let list = [&good, &bad][number % 2];
+            Case::new(list, damaged, [0, 1, 2][number % 3])
+        })
+        .collect();
+    for number in SHEET {
+        let refused = |sheet: &&Vec<u8>| sheet.len() > 1 && reader::read(sheet) == Err(number);
+        if let Some(damaged) = damaged.iter().find(refused) {
+            for (list, entry) in [(&good, 0), (&bad, 0), (&good, u32::MAX), (&bad, u32::MAX)] {
+                cases.push(Case::new(list, damaged, entry));
+            }
+        }
+    }
+    cases
+}
+
+/// Writes the sample, which ends in a record that is cut, and the answers to it, to where `rt` replays them.
+pub fn write_sample() -> Result<(), String> {
+    let cases = sample();
+    let end = ENDS.iter().find(|end| end.name == SAMPLE_END);
+    let stdin = input(&cases, end.ok_or("no such end")?);
+    let stdout = answers(&stdin);
+    let folder = port::root().join("crates").join(PROGRAM);
+    let fail = |e: io::Error| format!("{PROGRAM}: {e}");
+    fs::create_dir_all(&folder).map_err(fail)?;
+    fs::write(folder.join("stdin"), &stdin).map_err(fail)?;
+    fs::write(folder.join("stdout"), &stdout).map_err(fail)?;
+    println!(
+        "{PROGRAM}: a sample of {} records, {} bytes, and {} bytes of text",
+        cases.len(),
+        stdin.len(),
+        stdout.len()
+    );
+    Ok(())
+}
+
+const SAMPLE_END: &str = "one byte before the sheet's end";
+
 #[cfg(test)]
 mod tests {
     use super::*;
@@ -1021,6 +1106,22 @@ mod tests {
         assert!(!told_apart(Mistake::Nothing, &cases));
         for mistake in [&SHORT[..], &LONG].concat() {
             assert!(told_apart(mistake, &cases), "{mistake:?}");
+        }
+    }
+
+    /// The stored sample tells them apart, but for those that need a long list; it is within its size.
+    #[test]
+    fn wrong_finders_are_told_apart_by_the_sample() {
+        let cases = sample();
+        assert!(!told_apart(Mistake::Nothing, &cases));
+        for mistake in SHORT {
+            assert!(told_apart(mistake, &cases), "{mistake:?}");
+        }
+        let mut tally = Tally::default();
+        cases.iter().for_each(|case| tally.add(case));
+        for number in SHEET.map(usize::from) {
+            let met = [tally.with_list, tally.with_entry, tally.with_both];
+            assert!(met.iter().all(|met| met[number] > 0), "{number}");
         }
     }
 }

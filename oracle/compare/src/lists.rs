@@ -60,8 +60,9 @@ pub fn small() -> Vec<Words> {
         words(&[(b"", b"1"), (b"", b"22"), (b"\0", b"\xff")]),
         words(&[(b"a", b""), (b"ab", b"two"), (b"abc", b"3")]),
         words(&[(b"abc", b"3"), (b"ab", b""), (b"a", b"ab"), (b"ac", b"")]),
-        words(&[(b"\xff\0", b"b"), (b"\0", b"a"), (b"b", b"\0\x80\xff")]),
-        words(&[(&[b'l'; 24], b"24"), (&[b'l'; 25], b"25"), (b"l", b"l")]),
+        words(&[(b"\x7f", b"7"), (b"\xff\0", b"b"), (b"\0", b"a")]),
+        words(&[(b"b", b"\0\x80\xff"), (b"\x80", b"8"), (b"\xff", b"f")]),
+        words(&[(&[b'l'; 25], b"25"), (&[b'l'; 24], b"24"), (b"l", b"l")]),
     ]
 }
 

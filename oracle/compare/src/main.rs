@@ -3,6 +3,7 @@
 mod answer;
 mod bench;
 mod call;
+mod caption_text;
 mod captions;
 mod cases;
 mod checked;
@@ -50,6 +51,9 @@ const USAGE: &str = "usage:
   oracle door-bench [--calls N] [--rounds N]
   oracle captions [--seed N] [--cases N] [--least N] [--port COMMAND]
   oracle caption-answers
+  oracle caption-sample
+  oracle captions-text LIST SHEET
+  oracle caption-samples
   oracle bench
 KINDS: all, no-builders, no-update, or call bytes with commas between them";
 
@@ -139,6 +143,12 @@ fn run(words: &[&str]) -> Result<(), String> {
             })
         }
         "caption-answers" => Options::read(words, &[]).and_then(|_| captions::write_answers()),
+        "caption-sample" => Options::read(words, &[]).and_then(|_| captions::write_sample()),
+        "captions-text" => match words {
+            [list, sheet] => caption_text::print(list, sheet),
+            _ => Err(USAGE.into()),
+        },
+        "caption-samples" => Options::read(words, &[]).and_then(|_| caption_text::write_samples()),
         "bench" => Options::read(words, &[]).and_then(|_| bench::run()),
         _ => Err(USAGE.into()),
     }
