@@ -6,7 +6,7 @@ use crate::call::{Call, Lent, Update};
 use crate::checked::Checked;
 use crate::damage;
 use crate::pipe;
-use crate::port::root;
+use crate::port::{Program, root};
 use crate::reader::{self, At, Described, Entry, Mode};
 use crate::rng::Rng;
 use animato_core::{Playable, Update as Leaf};
@@ -15,7 +15,7 @@ use std::any::Any;
 use std::fmt::Write as _;
 use std::fs::{self, File};
 use std::io::{self, Read, Write as _};
-use std::process::{ChildStdin, Command, Stdio};
+use std::process::{ChildStdin, Stdio};
 use std::sync::{Arc, Mutex};
 use std::thread;
 use std::time::{Duration, Instant};
@@ -341,55 +341,7 @@ fn long(rng: &mut Rng) -> Vec<u8> {
 
 // Runs of the program
 
-/// How the program is run: by the kit's loader, found once, as tools/run does each time; or by another
-/// command.
-struct Program(Vec<String>);
-
 impl Program {
-    fn new(port: Option<&str>) -> Result<Self, String> {
-        if let Some(words) = port {
-            return Ok(Program(
-                words.split_whitespace().map(String::from).collect(),
-            ));
-        }
-        let program = root().join("target/bin").join(PROGRAM);
-        if !program.exists() {
-            return Err(format!("{PROGRAM}: it is not built"));
-        }
-        let by_tools = || {
-            vec![
-                root().join("tools/run").display().to_string(),
-                PROGRAM.into(),
-            ]
-        };
-        let guide = Command::new("rt")
-            .arg("doc")
-            .output()
-            .map_err(|e| e.to_string())?;
-        let guide = String::from_utf8_lossy(&guide.stdout).trim().to_string();
-        let kit = guide
-            .strip_suffix("/docs/START-HERE.md")
-            .unwrap_or_default();
-        let library = format!("{kit}/on/x86_64/toolchain/lib");
-        let loader = format!("{library}/ld-linux-x86-64.so.2");
-        if !cfg!(target_arch = "x86_64") || !fs::exists(&loader).unwrap_or(false) {
-            return Ok(Program(by_tools()));
-        }
-        let program = program.display().to_string();
-        Ok(Program(vec![
-            loader,
-            "--library-path".into(),
-            library,
-            program,
-        ]))
-    }
-
-    fn command(&self) -> Command {
-        let mut command = Command::new(&self.0[0]);
-        command.args(&self.0[1..]).stderr(Stdio::inherit());
-        command
-    }
-
     /// What it writes on an input that comes by a pipe, and what it says on standard error.
     fn log(&self, input: &[u8], feed: Feed) -> Result<(Vec<u8>, String), String> {
         let fail = |e: io::Error| format!("{PROGRAM}: {e}");
@@ -522,7 +474,7 @@ impl Case {
 
 /// Compares the logs of `inputs` inputs.
 pub fn compare(options: &Options) -> Result<(), String> {
-    let program = Program::new(options.port.as_deref())?;
+    let program = Program::new(PROGRAM, options.port.as_deref())?;
     let jobs = thread::available_parallelism().map_or(1, usize::from);
     let mut rng = Rng::new(options.seed);
     let mut tally = Tally::default();
@@ -718,7 +670,7 @@ pub fn long_input(rng: &mut Rng, mode: Mode, entries: u32, calls: u32) -> Vec<u8
 
 /// Times both sides on scripts of so many calls: lines a second, the best of some rounds.
 pub fn bench(calls: u32, rounds: u64) -> Result<(), String> {
-    let program = Program::new(None)?;
+    let program = Program::new(PROGRAM, None)?;
     let folder = root().join("target/oracle/input");
     fs::create_dir_all(&folder).map_err(|e| e.to_string())?;
     let file = folder.join(format!("{PROGRAM}.long"));

@@ -3,6 +3,11 @@
 mod answer;
 mod bench;
 mod call;
+mod caption_bench;
+mod caption_cases;
+#[cfg(test)]
+mod caption_mistakes;
+mod caption_tally;
 mod caption_text;
 mod captions;
 mod cases;
@@ -54,6 +59,8 @@ const USAGE: &str = "usage:
   oracle caption-sample
   oracle captions-text LIST SHEET
   oracle caption-samples
+  oracle caption-bench [--calls N] [--rounds N] [--port COMMAND]
+  oracle caption-calls
   oracle bench
 KINDS: all, no-builders, no-update, or call bytes with commas between them";
 
@@ -149,6 +156,13 @@ fn run(words: &[&str]) -> Result<(), String> {
             _ => Err(USAGE.into()),
         },
         "caption-samples" => Options::read(words, &[]).and_then(|_| caption_text::write_samples()),
+        "caption-bench" => {
+            let options = Options::read(words, &["--calls", "--rounds", "--port"])?;
+            let calls = options.number("--calls", 2_000)?;
+            let rounds = options.number("--rounds", 5)?;
+            caption_bench::bench(calls as u32, rounds, options.get("--port"))
+        }
+        "caption-calls" => Options::read(words, &[]).and_then(|_| caption_bench::run()),
         "bench" => Options::read(words, &[]).and_then(|_| bench::run()),
         _ => Err(USAGE.into()),
     }

@@ -46,3 +46,50 @@ impl Port {
         command
     }
 }
+
+/// How the program is run: by the kit's loader, found once, as tools/run does each time; or by another
+/// command.
+pub struct Program(Vec<String>);
+
+impl Program {
+    pub fn new(name: &str, port: Option<&str>) -> Result<Self, String> {
+        if let Some(words) = port {
+            let words: Vec<String> = words.split_whitespace().map(String::from).collect();
+            return match words.is_empty() {
+                true => Err(format!("{name}: no command in its place")),
+                false => Ok(Program(words)),
+            };
+        }
+        let program = root().join("target/bin").join(name);
+        if !program.exists() {
+            return Err(format!("{name}: it is not built"));
+        }
+        let by_tools = || vec![root().join("tools/run").display().to_string(), name.into()];
+        let guide = Command::new("rt")
+            .arg("doc")
+            .output()
+            .map_err(|e| e.to_string())?;
+        let guide = String::from_utf8_lossy(&guide.stdout).trim().to_string();
+        let kit = guide
+            .strip_suffix("/docs/START-HERE.md")
+            .unwrap_or_default();
+        let library = format!("{kit}/on/x86_64/toolchain/lib");
+        let loader = format!("{library}/ld-linux-x86-64.so.2");
+        if !cfg!(target_arch = "x86_64") || !fs::exists(&loader).unwrap_or(false) {
+            return Ok(Program(by_tools()));
+        }
+        let program = program.display().to_string();
+        Ok(Program(vec![
+            loader,
+            "--library-path".into(),
+            library,
+            program,
+        ]))
+    }
+
+    pub fn command(&self) -> Command {
+        let mut command = Command::new(&self.0[0]);
+        command.args(&self.0[1..]).stderr(Stdio::inherit());
+        command
+    }
+}
