@@ -51,7 +51,7 @@ const USAGE: &str = "usage:
   oracle sheets [--seed N] [--sheets N] [--least N] [--port COMMAND]
   oracle sheet-sample
   oracle doors [--seed N] [--inputs N] [--least N] [--port COMMAND]
-  oracle outputs [--seed N] [--runs N] [--least N] [--launcher FILE]
+  oracle outputs [--seed N] [--runs N] [--least N] [--launcher FILE] [--panel FILE]
   oracle door-log
   oracle door-bench [--calls N] [--rounds N]
   oracle captions [--seed N] [--cases N] [--least N] [--port COMMAND]
@@ -125,13 +125,14 @@ fn run(words: &[&str]) -> Result<(), String> {
             })
         }
         "outputs" => {
-            let known = ["--seed", "--runs", "--least", "--launcher"];
+            let known = ["--seed", "--runs", "--least", "--launcher", "--panel"];
             let options = Options::read(words, &known)?;
             outputs::check(&outputs::Options {
                 seed: options.number("--seed", 1)?,
                 runs: options.number("--runs", 30)?,
                 least: options.number("--least", 0)?,
                 launcher: options.get("--launcher").map(PathBuf::from),
+                panel: options.get("--panel").map(PathBuf::from),
             })
         }
         "door-log" => Options::read(words, &[]).and_then(|_| door::write_log()),

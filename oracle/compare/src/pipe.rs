@@ -1,13 +1,18 @@
 //! What the standard library does not say of pipes and processes: calls of the C library, which it links.
 
-use std::ffi::{c_int, c_short, c_ulong};
+use std::ffi::{CString, c_char, c_int, c_short, c_uint, c_ulong};
+use std::fs::File;
 use std::io;
 use std::os::fd::{AsFd, AsRawFd};
+use std::os::unix::ffi::OsStrExt;
+use std::os::unix::fs::OpenOptionsExt;
 use std::os::unix::process::CommandExt;
+use std::path::Path;
 use std::process::Command;
 
 unsafe extern "C" {
     fn fcntl(fd: c_int, command: c_int, ...) -> c_int;
+    fn mkfifo(path: *const c_char, mode: c_uint) -> c_int;
     fn ioctl(fd: c_int, request: c_ulong, ...) -> c_int;
     fn poll(fds: *mut PollFd, count: c_ulong, timeout: c_int) -> c_int;
     fn signal(number: c_int, handler: usize) -> usize;
@@ -44,6 +49,20 @@ pub fn unwaiting(end: &impl AsFd) -> io::Result<()> {
     let flags = done(unsafe { fcntl(fd, F_GETFL) })?;
     done(unsafe { fcntl(fd, F_SETFL, flags | O_NONBLOCK) })?;
     Ok(())
+}
+
+/// Makes a FIFO of this name.
+pub fn fifo(path: &Path) -> io::Result<()> {
+    let name = CString::new(path.as_os_str().as_bytes())?;
+    // SAFETY: the call reads the name, which ends in a NUL.
+    done(unsafe { mkfifo(name.as_ptr(), 0o600) })?;
+    Ok(())
+}
+
+/// The end of a FIFO to write to, which does not wait; it fails where no one has the other.
+pub fn unwaiting_writer(path: &Path) -> io::Result<File> {
+    let mut options = File::options();
+    options.write(true).custom_flags(O_NONBLOCK).open(path)
 }
 
 /// How many bytes a pipe holds that no one has read.
