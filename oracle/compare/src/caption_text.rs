@@ -223,23 +223,40 @@ mod tests {
         }
     }
 
-    /// The samples are those that would be written, and have the number of their name.
+    /// The samples are those that would be written, and the damaged ones have the number of their name.
     #[test]
     fn the_samples() {
+        let folder = root().join("samples/captions");
+        let stored = |file: String| fs::read(folder.join(file)).expect("a sample");
+        assert_eq!(stored("gates.sheet".into()), gates());
+        for (name, list) in [("german", german()), ("french", french())] {
+            assert_eq!(stored(format!("{name}.list")), list);
+            let text = text(&list, &gates()).into_bytes();
+            assert_eq!(stored(format!("{name}.captions")), text);
+        }
         for (name, list, sheet) in damaged() {
             let (number, _) = name.split_once('-').expect("a number");
-            assert_eq!(text(&list, &sheet), format!("captions {number}\n"));
+            let text = text(&list, &sheet);
+            assert_eq!(text, format!("captions {number}\n"));
+            assert_eq!(stored(format!("damaged/{name}.list")), list);
+            assert_eq!(stored(format!("damaged/{name}.sheet")), sheet);
+            assert_eq!(
+                stored(format!("damaged/{name}.captions")),
+                text.into_bytes()
+            );
         }
-        let folder = root().join("samples/captions");
-        for (name, list) in [("german", german()), ("french", french())] {
-            let stored =
-                |end: &str| fs::read(folder.join(format!("{name}.{end}"))).expect("a sample");
-            assert_eq!(stored("list"), list);
-            assert_eq!(stored("captions"), text(&list, &gates()).into_bytes());
-        }
-        assert_eq!(
-            fs::read(folder.join("gates.sheet")).expect("a sheet"),
-            gates()
-        );
+    }
+
+    /// By hand, from the lists: where `german` has its words. Seven codes, so the text starts at 58: `g1`,
+    /// 7 bytes of words, `ba`, 9, `bar`, 9, `bars`, 12, `bar`, 6, `g2`, none, no code, 9.
+    #[test]
+    fn the_german_sample() {
+        let expected = "captions 0 5\n\
+            0 L 60 7 S\\xc3\\xbcdtor\n\
+            1 L 117 0\n\
+            2 L 81 9 Getr\\xc3\\xa4nke\n\
+            3 S 99 3 vip\n\
+            4 L 117 9 f\\xc3\\xbcr alle\n";
+        assert_eq!(text(&german(), &gates()), expected);
     }
 }
