@@ -6,7 +6,7 @@ use mathlib.Core.List.{List}
 use native.Mathlib.Omega.{arith}
 use borrow.Author.Tests.{le-ltb, ltb-false, eq-eqb, ne-eqb}
 use lib.ListN.{length, take, drop}
-use Rattle.sheet_format.specs.Words.{word}
+use Rattle.words.specs.Words.{word}
 use Rattle.sheet.specs.Build.{readingOf}
 use Rattle.call_log.specs.Lines.{Refused}
 use Rattle.call_log.specs.Logs.{isCut, sheetIn, sheetNumber, sheetLine, trackIn}

@@ -13,7 +13,7 @@ use Rattle.track.specs.Tracks.{live, trackBase, trackRun}
 use Rattle.track.specs.declared.track.Track.{Track}
 use Rattle.track.specs.Calls.{Room, TrackOut, trackSilent}
 use Rattle.script.specs.Scripts.{outcomeIn}
-use Rattle.sheet_format.specs.Words.{byteAt, word}
+use Rattle.words.specs.Words.{byteAt, word}
 use Rattle.sheet.specs.Build.{readingOf}
 use Rattle.call_log.specs.Lines.{Line, Refused, Accepted, Called, shownAll}
 

@@ -15,7 +15,7 @@ use Rattle.steps.specs.Times.{maxEntries}
 use Rattle.track.specs.Tracks.{emptyTrack}
 use Rattle.track.specs.Columns.{trackOf}
 use Rattle.track.specs.Answers.{Lent, lentTrack}
-use Rattle.sheet_format.specs.Words.{word}
+use Rattle.words.specs.Words.{word}
 use Rattle.call_log.specs.declared.Log.{Log}
 use Rattle.call_log.specs.declared.Opened.{Opened}
 use Rattle.call_log.specs.declared.Logged.{Logged}

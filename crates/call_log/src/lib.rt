@@ -2,17 +2,17 @@
 mod fields;
 mod lines;
 
-use digits::wide_usize;
 pub use fields::LINE;
 use refusal::ACCEPTED;
 use refusal::SHEET_LENGTH;
 use steps::MAX_ENTRIES;
 use track::track::Playhead;
 use track::track::Track;
+use words::u16_at;
+use words::u32_at;
 ghost use mathlib.Core.Path.{_≡_};
 ghost use Prim.Native.Nat.{_+_, _<_, _≤_};
 ghost use lib.ListN.{length, take, drop};
-ghost use Rattle.sheet_format.specs.Words.{word};
 ghost use Rattle.call_log.specs.Lines.{Refused, shown, lineSize};
 ghost use Rattle.call_log.specs.Logs.{isCut, callSize};
 ghost use Rattle.call_log.specs.Machine.{Lends, MakesCall, lentLog, leftLog, LogsTo, RunsTo, sheetRoom, closedLog, openLine, openedBy, counted, lined, leastBytes, batchOf, batchedBy};
@@ -71,15 +71,6 @@ struct Logged {
     head: Playhead,
 }
 
-// The u16 at an offset.
-fn half_at(s: &[u8], at: usize) -> usize
-    requires { ⌜ at + 2 ≤ length (now s) ⌝ }
-    ensures { λ r. ⌜ (r ≡ word 2 (drop at (now (s .entry)))) × (r < 65536) ⌝ }
-{
-    let next = at + 1;
-    wide_usize(s[at]) + wide_usize(s[next]) * 256
-}
-
 // How many bytes the sheet has after the two that say so. None are wanted of a sheet that is too long.
 pub fn sheet_len(input: &[u8]) -> usize
     ensures { λ r. ⌜ r ≡ sheetRoom (now (input .entry)) ⌝ }
@@ -87,7 +78,7 @@ pub fn sheet_len(input: &[u8]) -> usize
     if input.len() < 2 {
         return 0;
     }
-    let len = half_at(input, 0);
+    let len = u16_at(input, 0) as usize;
     if len > MAX_SHEET {
         return 0;
     }
@@ -101,7 +92,7 @@ fn is_cut(input: &[u8]) -> bool
     if input.len() < 2 {
         return true;
     }
-    let len = half_at(input, 0);
+    let len = u16_at(input, 0) as usize;
     if len > MAX_SHEET {
         return true;
     }
@@ -337,16 +328,8 @@ fn call_at(rest: &[u8]) -> Call
     }
     Call {
         byte: rest[0],
-        x: float32::from_bits(bits_of(rest)),
+        x: float32::from_bits(u32_at(rest, 1)),
     }
-}
-
-// The bits of a call's f32.
-fn bits_of(rest: &[u8]) -> u32
-    requires { ⌜ callSize ≤ length (now rest) ⌝ }
-    ensures { λ r. ⌜ r ≡ word 4 (drop 1 (now (rest .entry))) ⌝ }
-{
-    (half_at(rest, 1) + half_at(rest, 3) * 65_536) as u32
 }
 
 // The next number.

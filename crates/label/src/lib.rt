@@ -45,7 +45,7 @@ pub fn text_len(l: Label) -> usize
 }
 
 // Whether two texts are equal, byte by byte.
-fn same_text(a: &[u8], b: &[u8]) -> bool
+pub fn same_text(a: &[u8], b: &[u8]) -> bool
     ensures { λ r. ⌜ r ≡ sameText (now (a .entry)) (now (b .entry)) ⌝ }
 {
     if a.len() != b.len() {

@@ -7,7 +7,7 @@ use native.Mathlib.Omega.{arith}
 use borrow.Author.Tests.{eqb-true, eqb-false}
 use lib.Dec.{eqb}
 use lib.ListN.{length, take, drop, length-drop}
-use Rattle.sheet_format.specs.Words.{word}
+use Rattle.words.specs.Words.{word}
 use Rattle.call_log.specs.Lines.{shown, shownAll}
 use Rattle.call_log.specs.Logs.{isCut, scriptIn, trackIn, sheetNumber, afterCalls, logOf, logBytes}
 use Rattle.call_log.specs.Machine.{openLine, openLog}

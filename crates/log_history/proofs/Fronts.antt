@@ -10,7 +10,7 @@ use lib.Dec.{eqb, ltb}
 use lib.ListN.{length, take, drop, length-take}
 use lib.Seq.{take-take, take-add, drop-at, length-take-le}
 use Rattle.track.specs.declared.track.Track.{Track}
-use Rattle.sheet_format.specs.Words.{word}
+use Rattle.words.specs.Words.{word}
 use Rattle.call_log.specs.declared.Log.{Log}
 use Rattle.sheet.specs.Build.{readingOf}
 use Rattle.call_log.specs.Logs.{isCut, sheetIn, sheetNumber, sheetLine, trackIn, callSize, outcomeAt}

@@ -13,8 +13,9 @@ use Rattle.clock.specs.Clocks.{playRule, shareIn, nextElapsed, advancedClock}
 use Rattle.track.specs.Calls.{sent, soughtTo, advancedTo, rested, updated, updatedWith, trackStep}
 use Rattle.timeline.specs.Placements.{empty, namedStart, resolveStart}
 use Rattle.timeline.specs.Calls.{addedAt, step, after}
-use Rattle.sheet_format.specs.Words.{word}
-use Rattle.sheet_format.specs.Check.{headerNumber, pairsNumber, recordNumber, recordsNumber, checkNumber}
+use Rattle.words.specs.Words.{word}
+use Rattle.words.specs.Pairs.{pairsInTurn}
+use Rattle.sheet_format.specs.Check.{headerNumber, recordNumber, recordsNumber, checkNumber}
 use Rattle.sheet_format.specs.Descriptions.{emptyDescription, loopOf, placementOf, itemsFrom, descriptionIn}
 use Rattle.sheet.specs.Build.{callsFrom, callsOf, readingOf}
 use Rattle.script.specs.Scripts.{outcomeIn}
@@ -27,5 +28,5 @@ unfolding shown codeOf digits decimalPlacesFrom decimalPlaces decimal toBits
 nan-shown = refl
 
 pub worked : logBytes exampleInput ≡ exampleLog
-unfolding exampleInput exampleLog logOf numbersFrom afterCalls callLine outcomeAt outcomeIn sheetNumber isCut shownAll shown readingOf callsOf callsFrom descriptionIn itemsFrom placementOf loopOf emptyDescription checkNumber recordsNumber recordNumber pairsNumber headerNumber word step after addedAt empty namedStart resolveStart trackStep updatedWith updated rested advancedTo soughtTo playRule sent nextElapsed aboveOne ticks newlyDone advanced playing advancedClock emptyTrack progressIn shareIn clocks.withState clocks.scaled clocks.cleared clocks.started clocks.playState clocks.played clocks.paused clocks.resumed clocks.seekTo clocks.seekState clocks.sought clocks.reachOf sameText firstFrom firstLike untouched resetStep synced ticked resetFirst baseOf timesRun runOf timesLocal pingPong localTime codeOf digits decimalPlacesFrom decimalPlaces decimal maxF minF clampF add sub mul div rem neg ofInt ofBits toBits toUnsigned isNan lt le eq
+unfolding exampleInput exampleLog logOf numbersFrom afterCalls callLine outcomeAt outcomeIn sheetNumber isCut shownAll shown readingOf callsOf callsFrom descriptionIn itemsFrom placementOf loopOf emptyDescription checkNumber recordsNumber recordNumber pairsInTurn headerNumber word step after addedAt empty namedStart resolveStart trackStep updatedWith updated rested advancedTo soughtTo playRule sent nextElapsed aboveOne ticks newlyDone advanced playing advancedClock emptyTrack progressIn shareIn clocks.withState clocks.scaled clocks.cleared clocks.started clocks.playState clocks.played clocks.paused clocks.resumed clocks.seekTo clocks.seekState clocks.sought clocks.reachOf sameText firstFrom firstLike untouched resetStep synced ticked resetFirst baseOf timesRun runOf timesLocal pingPong localTime codeOf digits decimalPlacesFrom decimalPlaces decimal maxF minF clampF add sub mul div rem neg ofInt ofBits toBits toUnsigned isNan lt le eq
 worked = refl

@@ -1,5 +1,7 @@
 -- The numbers by which a call is refused (paper 01, "Refusals"). 0 means accepted.
 use Prim.Native.Nat.{ℕ}
+use mathlib.Core.Bool.{Bool, cond}
+use lib.Dec.{eqb}
 
 -- no refusal
 abbrev pub accepted : ℕ
@@ -64,3 +66,17 @@ badCall = 14
 -- the room for a written sheet is too short
 abbrev pub roomTooShort : ℕ
 roomTooShort = 15
+
+-- a venue list of another shape, or an entry number that is not below the sheet's count
+abbrev pub badCaption : ℕ
+badCaption = 16
+
+-- ---- order: "First met refuses"
+
+-- a check: the number where it refuses, else what comes after it
+abbrev pub refusedIf : Bool → ℕ → ℕ → ℕ
+refusedIf refused number next = cond refused number next
+
+-- two parts in turn
+abbrev pub inTurn : ℕ → ℕ → ℕ
+inTurn first second = cond (eqb first accepted) second first

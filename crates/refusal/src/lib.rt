@@ -46,3 +46,6 @@ pub const BAD_CALL: u8 = 14;
 
 // The room for a written sheet is too short.
 pub const ROOM_TOO_SHORT: u8 = 15;
+
+// A venue list of another shape, or an entry number that is not below the sheet's count.
+pub const BAD_CAPTION: u8 = 16;

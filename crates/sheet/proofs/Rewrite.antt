@@ -7,23 +7,21 @@ use native.Mathlib.Omega.{arith}
 use borrow.Author.Tests.{eqb-true, le-leb, le-ltb}
 use lib.Dec.{eqb}
 use lib.ListN.{length, take, drop, replicate, length-take, length-drop, take-append-drop}
-use lib.Seq.{take-add, take-at, drop-drop, getD-drop, drop-length}
+use lib.Seq.{take-add, take-at, drop-drop, drop-length}
 use Rattle.refusal.specs.Refusal.{accepted}
 use Rattle.steps.specs.Times.{maxEntries}
 use Rattle.label.specs.Label.{maxLabel, text, labelOf}
 use Rattle.label.proofs.Text.{text-whole}
-use Rattle.sheet_format.specs.Words.{byteAt, word, bytesOf}
-use Rattle.sheet_rules.specs.Rules.{headerSize, pairSize, recordSize, labelsAt, placementGood, zerosGood}
-use Rattle.sheet_format.specs.Check.{recordsAt, countIn, offsetIn, lengthIn, pairGood, pairsNumber, kindIn, targetIn, secondsIn, recordNumber, recordsNumber}
-use Rattle.sheet_format.specs.Descriptions.{blankItem, itemsIn, loopOf, partOf, itemOf, itemsFrom, sheetItems, descriptionIn}
+use Rattle.words.specs.Words.{byteAt, word, bytesOf}
+use Rattle.words.specs.Pairs.{pairSize, offsetIn, lengthIn, partOf, pairsInTurn}
+use Rattle.sheet_rules.specs.Rules.{headerSize, recordSize, labelsAt, placementGood, zerosGood}
+use Rattle.sheet_format.specs.Check.{recordsAt, countIn, pairGood, pairsNumber, kindIn, targetIn, secondsIn, recordNumber, recordsNumber}
+use Rattle.sheet_format.specs.Descriptions.{blankItem, itemsIn, loopOf, itemOf, itemsFrom, sheetItems, descriptionIn}
 use Rattle.sheet_format.specs.Write.{headerBytes, textLength, pairOf, pairsOf, recordOf, recordsOf, textsOf, sheetOf, labelsGood, targetGood, targetsGood, describeNumber}
-use Rattle.sheet_format.proofs.Bytes.{Bytes, bytes-word}
+use Rattle.words.proofs.Bytes.{Bytes, bytes-drop, bytes-word}
 use Rattle.sheet_format.proofs.Accepted.{passed-good, in-turn, Accepted, pair-good}
 use Rattle.steps.proofs.Tests.{and-true}
 use Rattle.sheet_format.proofs.Five.{loop-back, placement-back}
-
-bytes-drop : (n : ℕ) (s : List ℕ) → Bytes s → Bytes (drop n s)
-bytes-drop n s b i = rw (getD-drop n s i 0) (b (n + i))
 
 -- the first four bytes
 four : (s : List ℕ) → 4 ≤ length s → take 4 s ≡ byteAt s 0 ∷ byteAt s 1 ∷ byteAt s 2 ∷ byteAt s 3 ∷ []
@@ -63,12 +61,12 @@ module _ (s : List ℕ) where
 
   -- labels end in the sheet
   ends : (place k : ℕ) (pairs : List ℕ) → pairsNumber (length s) place k pairs ≡ 0 → place ≤ length s
-  unfolding pairsNumber
+  unfolding pairsInTurn
   ends place zero pairs e = omega (arith, eqb-true place (length s) (passed-good _ 6 _ e .0))
   ends place (suc k) pairs e = omega (arith, ends (place + lengthIn pairs) k (drop pairSize pairs) (passed-good (pairGood place pairs) 10 _ e .1))
 
   placed : (place k : ℕ) (pairs records : List ℕ) → pairsNumber (length s) place (suc k) pairs ≡ 0 → Placed place k pairs records
-  unfolding pairsNumber
+  unfolding pairsInTurn
   placed place k pairs records e =
       let p = passed-good (pairGood place pairs) 10 (pairsNumber (length s) (place + lengthIn pairs) k (drop pairSize pairs)) e in
       let g = pair-good place pairs (p .0) in
@@ -97,7 +95,7 @@ module _ (s : List ℕ) where
       rw (p .size, front, append-assoc, n, ← drop-drop (pairSize * k) pairSize pairs, rest) (take-append-drop 4 pairs)
 
   pub texts-back : (place k : ℕ) (pairs records : List ℕ) → pairsNumber (length s) place k pairs ≡ 0 → textsOf (itemsFrom s k pairs records) ≡ drop place s
-  unfolding textsOf itemsFrom pairsNumber
+  unfolding textsOf itemsFrom pairsInTurn
   texts-back place zero pairs records e = rw (eqb-true place (length s) (passed-good _ 6 _ e .0)) (sym (drop-length s))
   texts-back place (suc k) pairs records e =
       let p = placed place k pairs records e in

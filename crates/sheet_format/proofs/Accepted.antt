@@ -9,9 +9,11 @@ use lib.Dec.{eqb}
 use lib.ListN.{length, drop}
 use Rattle.steps.specs.Times.{maxEntries}
 use Rattle.label.specs.Label.{maxLabel}
-use Rattle.sheet_format.specs.Words.{byteAt, word}
-use Rattle.sheet_rules.specs.Rules.{headerSize, labelsAt, refusedIf, loopGood}
-use Rattle.sheet_format.specs.Check.{recordsAt, inTurn, countIn, headerNumber, offsetIn, lengthIn, pairGood, pairsNumber, recordsNumber, checkNumber}
+use Rattle.words.specs.Words.{byteAt, word}
+use Rattle.refusal.specs.Refusal.{refusedIf, inTurn}
+use Rattle.sheet_rules.specs.Rules.{headerSize, labelsAt, loopGood}
+use Rattle.words.specs.Pairs.{offsetIn, lengthIn}
+use Rattle.sheet_format.specs.Check.{recordsAt, countIn, headerNumber, pairGood, pairsNumber, recordsNumber, checkNumber}
 use Rattle.steps.proofs.Tests.{and-true}
 
 -- a check that does not refuse was passed, and so were those after it

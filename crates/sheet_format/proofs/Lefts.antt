@@ -7,7 +7,8 @@ use lib.ListN.{length, take, drop, getD}
 use Rattle.label.specs.Label.{text}
 use Rattle.digits.specs.Digits.{putAt}
 use Rattle.sheet_format.specs.declared.description.Item.{Item}
-use Rattle.sheet_rules.specs.Rules.{pairSize, recordSize}
+use Rattle.words.specs.Pairs.{pairSize}
+use Rattle.sheet_rules.specs.Rules.{recordSize}
 use Rattle.sheet_format.specs.Write.{textLength, pairOf, pairsOf, recordOf, recordsOf, textsOf}
 use Rattle.sheet_format.proofs.Stores.{Left, less-left, none-left}
 use Rattle.sheet_format.proofs.Turns.{live-end, pairs-live, pairs-none, records-live, records-none, texts-live, texts-none, length-pair, length-record}

@@ -1,7 +1,5 @@
 -- Laws of sheets: words, stores, parts, the turns of the loops, and the round trips.
-pub mod Bytes
 pub mod Stores
-pub mod Parts
 pub mod Filling
 pub mod Accepted
 pub mod Turns

@@ -11,12 +11,13 @@ use lib.Seq.{take-all, take-append-seam, drop-at, drop-drop}
 use Rattle.label.specs.Label.{maxLabel, text}
 use Rattle.sheet_format.specs.declared.description.Item.{Item}
 use Rattle.sheet_format.specs.declared.description.Description.{Description}
-use Rattle.sheet_format.specs.Words.{byteAt, word, bytesOf}
-use Rattle.sheet_rules.specs.Rules.{headerSize, pairSize, recordSize, labelsAt}
-use Rattle.sheet_format.specs.Check.{recordsAt, countIn, headerNumber, offsetIn, lengthIn, pairsNumber, kindIn, targetIn, secondsIn, durationIn, recordNumber, recordsNumber, checkNumber}
-use Rattle.sheet_format.specs.Descriptions.{describedBy, blankItem, itemsIn, loopOf, partOf, itemOf, itemsFrom, sheetItems, descriptionIn, cleanItem, cleaned}
+use Rattle.words.specs.Words.{byteAt, word, bytesOf}
+use Rattle.words.specs.Pairs.{pairSize, offsetIn, lengthIn, partOf, pairsInTurn}
+use Rattle.sheet_rules.specs.Rules.{headerSize, recordSize, labelsAt}
+use Rattle.sheet_format.specs.Check.{recordsAt, countIn, headerNumber, pairsNumber, kindIn, targetIn, secondsIn, durationIn, recordNumber, recordsNumber, checkNumber}
+use Rattle.sheet_format.specs.Descriptions.{describedBy, blankItem, itemsIn, loopOf, itemOf, itemsFrom, sheetItems, descriptionIn, cleanItem, cleaned}
 use Rattle.sheet_format.specs.Write.{modeOf, numberOf, kindOf, targetOf, secondsOf, headerBytes, textLength, pairOf, pairsOf, recordOf, recordsOf, textsOf, sheetOf, labelsGood, targetGood, targetsGood, describeNumber, ReadsBack}
-use Rattle.sheet_format.proofs.Bytes.{length-bytes, word-bytes}
+use Rattle.words.proofs.Bytes.{length-bytes, word-bytes}
 use Rattle.sheet_format.proofs.Accepted.{Header, Accepted}
 use Rattle.steps.proofs.Tests.{and-true}
 use Rattle.sheet_format.proofs.Turns.{length-pair, length-record, length-pairs, length-records}
@@ -80,7 +81,7 @@ record-front x rest t =
 -- ---- in turn
 
 pairs-step : (len offset k size : ℕ) (pairs rest : List ℕ) → PairFront offset size pairs rest → size ≤ maxLabel → pairsNumber len offset (suc k) pairs ≡ pairsNumber len (offset + size) k rest
-unfolding pairsNumber
+unfolding pairsInTurn
 pairs-step len offset k size pairs rest f h = rw (f .starts, f .size, f .next, eq-eqb offset offset refl, le-leb size maxLabel h)
 
 records-step : (n k : ℕ) (x : Item) (records rest : List ℕ) → RecordFront x records rest → targetGood n (x .at) ≡ true → recordsNumber n (suc k) records ≡ recordsNumber n k rest
@@ -102,7 +103,7 @@ texts-short (x ∷ xs) g =
     omega (arith, length-append (text (x .label)) (textsOf xs))
 
 pairs-last : (len offset : ℕ) (pairs : List ℕ) → offset ≡ len → pairsNumber len offset 0 pairs ≡ 0
-unfolding pairsNumber
+unfolding pairsInTurn
 pairs-last len offset pairs e = rw (eq-eqb offset len e)
 
 pairs-accepted : (len offset : ℕ) (xs : List Item) (rest : List ℕ) → labelsGood xs ≡ true → offset + length (textsOf xs) ≡ len → len < 65536

@@ -14,7 +14,7 @@ use Rattle.sheet_format.specs.declared.description.Description.{Descript
 use Rattle.sheet_rules.specs.Rules.{headerSize, labelsAt}
 use Rattle.sheet_format.specs.Descriptions.{itemsIn}
 use Rattle.sheet_format.specs.Write.{headerBytes, textsOf, sheetOf, labelsGood, targetsGood, describeNumber, writeNumber, writtenBytes}
-use Rattle.sheet_format.proofs.Bytes.{length-bytes}
+use Rattle.words.proofs.Bytes.{length-bytes}
 use Rattle.sheet_format.proofs.Turns.{length-pairs, length-records}
 use Rattle.sheet_format.proofs.Accepted.{passed, passed-good}
 

@@ -1,12 +1,13 @@
 -- Bytes put over a slice, one part after the other: what is still to be written, at each turn of a loop.
-use Prim.Native.Nat.{ℕ, _+_, _*_, _≤_}
+use Prim.Native.Nat.{ℕ, suc, _+_, _*_, _/_, _%_, _≤_, _<_}
 use mathlib.Core.Path.{_≡_, refl, sym, ap, _∙_}
-use mathlib.Core.List.{List, [], _++_}
+use mathlib.Core.List.{List, [], _∷_, _++_}
+use native.Mathlib.Numerals.{add-one}
 use native.Mathlib.Omega.{arith}
-use lib.ListN.{length, take, length-append, length-take, length-drop}
-use lib.Seq.{paste}
-use Rattle.sheet_format.specs.Words.{bytesOf}
-use Rattle.sheet_format.proofs.Bytes.{length-bytes}
+use lib.ListN.{length, take, set, length-append, length-take, length-drop}
+use lib.Seq.{paste, sets-eq}
+use Rattle.words.specs.Words.{bytesOf}
+use Rattle.words.proofs.Bytes.{length-bytes}
 use Rattle.steps.proofs.Lists.{take-own}
 use Rattle.digits.specs.Digits.{putAt}
 use Rattle.digits.proofs.PutAt.{putAt-nil, putAt-append}
@@ -78,3 +79,19 @@ putAt-parts h p r t n m old a b c new lh lp lr e room wa wb wc wn =
 -- the first bytes of a list, copied, are a text
 pub paste-putAt : (n : ℕ) (xs : List ℕ) (i at : ℕ) (old : List ℕ) → i ≡ length (take n xs) → paste old at xs i ≡ putAt (take n xs) at old
 paste-putAt n xs i at old e = rw (e, take-own n xs)
+
+-- ---- words
+
+-- two stores write a word of two bytes
+pub putAt-two : (n at : ℕ) (old : List ℕ) → n < 65536 → at + 2 ≤ length old → set (set old at (n % 256)) (at + 1) (n / 256) ≡ putAt (bytesOf 2 n) at old
+unfolding bytesOf
+putAt-two n at old small h =
+    let e : n / 256 % 256 ≡ n / 256 = omega arith in
+    rw (add-one, e) (sets-eq (n % 256 ∷ n / 256 ∷ []) old at h)
+
+pub putAt-four : (a b c d at : ℕ) (old : List ℕ) → at + 4 ≤ length old
+    → set (set (set (set old at a) (at + 1) b) (at + 2) c) (at + 3) d ≡ putAt (a ∷ b ∷ c ∷ d ∷ []) at old
+putAt-four a b c d at old h =
+    let two : at + 2 ≡ suc (suc at) = omega arith in
+    let three : at + 3 ≡ suc (suc (suc at)) = omega arith in
+    rw (add-one at, two, three) (sets-eq (a ∷ b ∷ c ∷ d ∷ []) old at h)

@@ -15,11 +15,12 @@ use Rattle.label.specs.Label.{maxLabel, text, noLabel}
 use Rattle.sheet_format.specs.declared.description.Placement.{Placement}
 use Rattle.sheet_format.specs.declared.description.Placement.the-variants.{Absolute, Start, End, Label as Labeled, Offset}
 use Rattle.sheet_format.specs.declared.description.Item.{Item}
-use Rattle.sheet_rules.specs.Rules.{pairSize, recordSize}
-use Rattle.sheet_format.specs.Check.{lengthIn, pairGood, pairsNumber, recordNumber, recordsNumber}
+use Rattle.words.specs.Pairs.{pairSize, lengthIn, pairsInTurn}
+use Rattle.sheet_rules.specs.Rules.{recordSize}
+use Rattle.sheet_format.specs.Check.{pairGood, pairsNumber, recordNumber, recordsNumber}
 use Rattle.sheet_format.specs.Descriptions.{itemOf, itemsFrom}
 use Rattle.sheet_format.specs.Write.{textLength, targetOf, pairOf, pairsOf, recordOf, recordsOf, textsOf, labelsGood, targetGood, targetsGood}
-use Rattle.sheet_format.proofs.Bytes.{length-bytes}
+use Rattle.words.proofs.Bytes.{length-bytes}
 use Rattle.steps.proofs.Tests.{and-true}
 
 module _ (n i : ℕ) where
@@ -34,16 +35,16 @@ module _ (n i : ℕ) where
 
   module _ (len offset at : ℕ) (s : List ℕ) where
     pub pairs-bad : i < n → pairGood offset (drop at s) ≡ false → pairsNumber len offset (n - i) (drop at s) ≡ sheetPair
-    unfolding pairsNumber
+    unfolding pairsInTurn
     pairs-bad h g = rw (turn h, g)
 
     pub pairs-more : i < n → pairGood offset (drop at s) ≡ true
         → pairsNumber len offset (n - i) (drop at s) ≡ pairsNumber len (offset + lengthIn (drop at s)) (n - (i + 1)) (drop (at + pairSize) s)
-    unfolding pairsNumber
+    unfolding pairsInTurn
     pairs-more h g = rw (turn h, g, drop-drop pairSize at s)
 
     pub pairs-end : n ≤ i → pairsNumber len offset (n - i) (drop at s) ≡ cond (not (eqb offset len)) sheetLength accepted
-    unfolding pairsNumber
+    unfolding pairsInTurn
     pairs-end h = rw (done h)
 
   -- ---- the records

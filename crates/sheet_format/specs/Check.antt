@@ -1,20 +1,17 @@
 -- The number by which a sheet is refused, for every byte string (paper 01, "The sheet" and "Checks"). Definitions only.
 use Prim.Native.Nat.{ℕ, zero, suc, _+_, _*_}
-use mathlib.Core.Bool.{Bool, cond, not}
+use mathlib.Core.Bool.{Bool}
 use mathlib.Core.List.{List}
-use lib.Dec.{eqb, ltb}
+use lib.Dec.{ltb}
 use lib.ListN.{length, drop}
-use Rattle.refusal.specs.Refusal.{accepted, sheetLength, sheetPair}
-use Rattle.sheet_rules.specs.Rules.{headerSize, pairSize, recordSize, labelsAt, refusedIf, headerRefusal, pairFits, recordRefusal}
-use Rattle.sheet_format.specs.Words.{byteAt, word}
+use Rattle.refusal.specs.Refusal.{accepted, sheetLength, sheetPair, refusedIf, inTurn}
+use Rattle.words.specs.Pairs.{pairSize, offsetIn, lengthIn, pairsInTurn}
+use Rattle.sheet_rules.specs.Rules.{headerSize, recordSize, labelsAt, headerRefusal, labelFits, pairFits, recordRefusal}
+use Rattle.words.specs.Words.{byteAt, word}
 
 -- where the records start
 abbrev pub recordsAt : ℕ → ℕ
 recordsAt n = headerSize + pairSize * n
-
--- two parts in turn
-abbrev pub inTurn : ℕ → ℕ → ℕ
-inTurn first second = cond (eqb first accepted) second first
 
 -- ---- the header
 
@@ -30,22 +27,13 @@ headerNumber s =
 
 -- ---- the pairs
 
--- the offset and the length of the pair at the front
-abbrev pub offsetIn : List ℕ → ℕ
-offsetIn pairs = word 2 pairs
-
-abbrev pub lengthIn : List ℕ → ℕ
-lengthIn pairs = word 2 (drop 2 pairs)
-
 -- the pair at the front starts at this offset, and is no longer than a label
 abbrev pub pairGood : ℕ → List ℕ → Bool
 pairGood offset pairs = pairFits offset (offsetIn pairs) (lengthIn pairs)
 
 -- "pairs in turn (11); 7 if the end differs": of k pairs, in a sheet of len bytes, where the first label starts at this offset
-unfoldable pub pairsNumber : ℕ → ℕ → ℕ → List ℕ → ℕ
-pairsNumber len offset zero pairs = refusedIf (not (eqb offset len)) sheetLength accepted
-pairsNumber len offset (suc k) pairs =
-    refusedIf (not (pairGood offset pairs)) sheetPair (pairsNumber len (offset + lengthIn pairs) k (drop pairSize pairs))
+abbrev pub pairsNumber : ℕ → ℕ → ℕ → List ℕ → ℕ
+pairsNumber len offset k pairs = pairsInTurn labelFits sheetPair sheetLength len offset k pairs
 
 -- ---- the records
 

@@ -13,9 +13,10 @@ use Rattle.sheet_format.specs.declared.description.Placement.the-variant
 use Rattle.sheet_format.specs.declared.description.Item.{Item}
 use Rattle.sheet_format.specs.declared.description.Description.{Description}
 use Rattle.sheet_format.specs.declared.description.Described.{Described}
-use Rattle.sheet_format.specs.Words.{byteAt, word}
-use Rattle.sheet_rules.specs.Rules.{headerSize, pairSize, recordSize}
-use Rattle.sheet_format.specs.Check.{recordsAt, countIn, offsetIn, lengthIn, kindIn, targetIn, secondsIn, durationIn, checkNumber}
+use Rattle.words.specs.Words.{byteAt, word}
+use Rattle.words.specs.Pairs.{pairSize, partOf}
+use Rattle.sheet_rules.specs.Rules.{headerSize, recordSize}
+use Rattle.sheet_format.specs.Check.{recordsAt, countIn, kindIn, targetIn, secondsIn, durationIn, checkNumber}
 
 -- ---- descriptions
 
@@ -48,10 +49,6 @@ placementOf kind target seconds =
     (cond (eqb kind 1) Start
     (cond (eqb kind 2) End
     (cond (eqb kind 3) (Labeled target) (Offset seconds))))
-
--- the bytes of the label whose pair is at the front: a part of the sheet
-abbrev pub partOf : List ℕ → List ℕ → List ℕ
-partOf s pairs = take (lengthIn pairs) (drop (offsetIn pairs) s)
 
 -- the entry whose pair and record are at the front
 abbrev pub itemOf : List ℕ → List ℕ → List ℕ → Item

@@ -1,4 +1,3 @@
-pub mod Words
 pub mod Descriptions
 pub mod Check
 pub mod Write

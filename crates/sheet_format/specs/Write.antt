@@ -5,7 +5,7 @@ use mathlib.Core.Bool.{Bool, true, cond, not, _&&_}
 use mathlib.Core.List.{List, [], _∷_, _++_}
 use lib.Dec.{eqb, leb, ltb}
 use lib.ListN.{length, take, drop}
-use Rattle.refusal.specs.Refusal.{accepted, sheetCount, sheetPlacement, sheetPair, roomTooShort}
+use Rattle.refusal.specs.Refusal.{accepted, sheetCount, sheetPlacement, sheetPair, roomTooShort, refusedIf}
 use Rattle.steps.specs.Times.{maxEntries}
 use Rattle.tween.specs.declared.loop_mode.Loop.{Loop}
 use Rattle.tween.specs.declared.loop_mode.Loop.the-variants.{Once, Times, Forever, PingPong, PingPongTimes}
@@ -15,8 +15,8 @@ use Rattle.sheet_format.specs.declared.description.Placement.the-variant
 use Rattle.sheet_format.specs.declared.description.Item.{Item}
 use Rattle.sheet_format.specs.declared.description.Description.{Description}
 use Rattle.sheet_format.specs.declared.writing.Written.{Written}
-use Rattle.sheet_format.specs.Words.{bytesOf}
-use Rattle.sheet_rules.specs.Rules.{labelsAt, refusedIf}
+use Rattle.words.specs.Words.{bytesOf}
+use Rattle.sheet_rules.specs.Rules.{labelsAt}
 use Rattle.sheet_format.specs.Descriptions.{itemsIn, describedBy, cleaned}
 
 -- ---- the bytes

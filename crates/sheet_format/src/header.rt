@@ -1,14 +1,14 @@
 // The header: version, count, mode, loop number, scale bits.
-use crate::words::put_four;
-use crate::words::put_u32;
-use crate::words::u32_at;
+use crate::put::put_four;
+use crate::put::put_u32;
 use refusal::SHEET_LENGTH;
 use sheet_rules::HEADER_SIZE;
-use sheet_rules::PAIR_SIZE;
 use sheet_rules::RECORD_SIZE;
 use sheet_rules::VERSION;
 use sheet_rules::header_refusal;
 use tween::Loop;
+use words::PAIR_SIZE;
+use words::u32_at;
 ghost use mathlib.Core.Path.{_≡_};
 ghost use Prim.Native.Nat.{_≤_};
 ghost use lib.ListN.{length};

@@ -3,8 +3,8 @@ pub mod checks;
 pub mod description;
 mod header;
 mod pairs;
+mod put;
 mod records;
-mod words;
 pub mod writing;
 
 pub use checks::check;

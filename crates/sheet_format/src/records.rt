@@ -2,13 +2,13 @@
 use crate::description::Item;
 use crate::description::Placement;
 use crate::header::records_at;
-use crate::words::put_four;
-use crate::words::put_u32;
-use crate::words::u32_at;
+use crate::put::put_four;
+use crate::put::put_u32;
 use refusal::ACCEPTED;
 use sheet_rules::RECORD_SIZE;
 use sheet_rules::record_refusal;
 use steps::MAX_ENTRIES;
+use words::u32_at;
 ghost use mathlib.Core.Path.{_≡_};
 ghost use mathlib.Core.Bool.{true};
 ghost use Prim.Native.Nat.{_+_, _<_, _≤_};

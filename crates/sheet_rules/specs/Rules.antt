@@ -2,17 +2,14 @@
 use Prim.Native.Nat.{ℕ, _+_, _*_}
 use mathlib.Core.Bool.{Bool, cond, not, _&&_, _||_}
 use lib.Dec.{eqb, leb, ltb}
-use Rattle.refusal.specs.Refusal.{accepted, sheetVersion, sheetLength, sheetCount, sheetLoop, sheetPlacement, sheetZero}
+use Rattle.refusal.specs.Refusal.{accepted, refusedIf, sheetVersion, sheetLength, sheetCount, sheetLoop, sheetPlacement, sheetZero}
 use Rattle.steps.specs.Times.{maxEntries}
 use Rattle.label.specs.Label.{maxLabel}
 
--- ---- sizes: "12 + 16n", the header, then 4 bytes for a pair and 12 for a record
+-- ---- sizes: "12 + 16n", the header, then 4 bytes for a pair (crate words) and 12 for a record
 
 abbrev pub headerSize : ℕ
 headerSize = 12
-
-abbrev pub pairSize : ℕ
-pairSize = 4
 
 abbrev pub recordSize : ℕ
 recordSize = 12
@@ -20,12 +17,6 @@ recordSize = 12
 -- where the labels of n entries start
 abbrev pub labelsAt : ℕ → ℕ
 labelsAt n = headerSize + 16 * n
-
--- ---- order: "First met refuses"
-
--- a check: the number where it refuses, else what comes after it
-abbrev pub refusedIf : Bool → ℕ → ℕ → ℕ
-refusedIf refused number next = cond refused number next
 
 -- ---- the header
 
@@ -44,9 +35,13 @@ headerRefusal len version n mode reserved number =
 
 -- ---- a pair
 
+-- "a label has 0 to 24 bytes"
+abbrev pub labelFits : ℕ → Bool
+labelFits len = leb len maxLabel
+
 -- it starts where the one before ends, and is no longer than a label
 abbrev pub pairFits : ℕ → ℕ → ℕ → Bool
-pairFits offset start len = eqb start offset && leb len maxLabel
+pairFits offset start len = eqb start offset && labelFits len
 
 -- ---- a record
 

@@ -9,13 +9,12 @@ use refusal::SHEET_PLACEMENT;
 use refusal::SHEET_VERSION;
 use refusal::SHEET_ZERO;
 use steps::MAX_ENTRIES;
+use words::PAIR_SIZE;
 ghost use mathlib.Core.Path.{_≡_};
 ghost use Rattle.sheet_rules.specs.Rules.{loopGood, headerRefusal, pairFits, placementGood, zerosGood, recordRefusal};
 
-// Bytes of the header, of a pair and of a record.
+// Bytes of the header and of a record.
 pub const HEADER_SIZE: usize = 12;
-
-pub const PAIR_SIZE: usize = 4;
 
 pub const RECORD_SIZE: usize = 12;
 

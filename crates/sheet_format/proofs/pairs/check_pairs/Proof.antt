@@ -1,12 +1,17 @@
 -- What the pairs so far leave to check: those from i on, the first of which has to start at this offset.
 use Rattle.sheet_format.proofs.Accepted.{pair-good}
-use mathlib.Core.Path.{_≡_, refl, sym, _∙_}
-use Prim.Native.Nat.{_+_, _*_, _-_, _≤_}
+use mathlib.Core.Path.{_≡_, refl, sym, ap, _∙_}
+use mathlib.Core.Bool.{Bool}
+use mathlib.Core.List.{List}
+use Prim.Native.Nat.{ℕ, _+_, _*_, _-_, _≤_}
 use native.Mathlib.Omega.{arith}
+use borrow.Author.Needs.{needs}
 use borrow.Author.Tests.{not-true, not-false, eq-eqb, ne-eqb}
 use lib.ListN.{length, drop}
-use Rattle.sheet_rules.specs.Rules.{headerSize, labelsAt}
-use Rattle.sheet_format.specs.Check.{pairsNumber}
+use Rattle.words.specs.declared.Pair.{Pair}
+use Rattle.words.specs.Pairs.{pairIn}
+use Rattle.sheet_rules.specs.Rules.{headerSize, labelsAt, pairFits}
+use Rattle.sheet_format.specs.Check.{pairGood, pairsNumber}
 use Rattle.sheet_format.proofs.Turns.{pairs-bad, pairs-more, pairs-end}
 use Rattle.sheet_format.proofs.pairs.check_pairs.Statement.{statement}
 use Rattle.sheet_format.proofs.pairs.check_pairs.Tie as tie
@@ -26,22 +31,27 @@ loop-holds c =
     let z : n - 0 ≡ n = omega arith in
     (omega arith, refl, omega (arith, c .labels-at .ensures), rw (z, c .labels-at .ensures))
 
-pair-good-requires : tie.Need-pair-good-requires Inv-loop μ-loop
-pair-good-requires c κs = omega arith
+pair-at-requires : tie.Need-pair-at-requires Inv-loop μ-loop
+pair-at-requires c κs = search needs
+
+pair-fits-requires : tie.Need-pair-fits-requires Inv-loop μ-loop
+pair-fits-requires c κs = search needs
+
+-- the test of a pair that was read is that of the pair in the sheet
+tests : (offset : ℕ) (p : Pair) (pairs : List ℕ) (b : Bool) → p ≡ pairIn pairs → b ≡ pairFits offset (p .offset) (p .len) → pairGood offset pairs ≡ b
+tests offset p pairs b e f = sym (f ∙ ap (λ (q : Pair). pairFits offset (q .offset) (q .len)) e)
 
 returns : tie.Need-returns Inv-loop μ-loop
 returns c =
-    let at = c .before .before .before in
-    let n = c .before .before .before .before .before .before .args .n in
-    sym (at .loop .inv .3 ∙ pairs-bad n (at .loop .i) _ _ (at .loop .at) _ (omega arith) (sym (c .before .pair-good .ensures) ∙ not-true (c .before .pair-good .result) (c .if1 .taken)))
-
-length-at-requires : tie.Need-length-at-requires Inv-loop μ-loop
-length-at-requires c κs = omega arith
+    let at = c .before .before .before .before in
+    let n = at .before .before .before .args .n in
+    let bad = tests _ _ _ _ (c .before .before .pair-at .ensures) (c .before .pair-fits .ensures) ∙ not-true (c .before .pair-fits .result) (c .if1 .taken) in
+    sym (at .loop .inv .3 ∙ pairs-bad n (at .loop .i) _ _ (at .loop .at) _ (omega arith) bad)
 
 add-offset : tie.Need-add-offset Inv-loop μ-loop
 add-offset c =
-    let good = sym (c .before .before .pair-good .ensures) ∙ not-false (c .before .before .pair-good .result) (c .before .if1 .left) in
-    omega (arith, c .length-at .ensures, pair-good _ _ good .1)
+    let good = tests _ _ _ _ (c .before .before .before .pair-at .ensures) (c .before .before .pair-fits .ensures) ∙ not-false (c .before .before .pair-fits .result) (c .before .if1 .left) in
+    omega (arith, ap (λ (p : Pair). p .len) (c .before .before .before .pair-at .ensures), pair-good _ _ good .1)
 
 add-at : tie.Need-add-at Inv-loop μ-loop
 add-at c = omega arith
@@ -54,13 +64,14 @@ loop-less c = omega arith
 
 loop-again : tie.Need-loop-again Inv-loop μ-loop
 loop-again c =
-    let at = c .before .before .before .before in
-    let n = c .before .before .before .before .before .before .before .args .n in
-    let good = sym (c .before .before .pair-good .ensures) ∙ not-false (c .before .before .pair-good .result) (c .before .if1 .left) in (
+    let at = c .before .before .before .before .before in
+    let n = at .before .before .before .args .n in
+    let good = tests _ _ _ _ (c .before .before .before .pair-at .ensures) (c .before .before .pair-fits .ensures) ∙ not-false (c .before .before .pair-fits .result) (c .before .if1 .left) in
+    let len = ap (λ (p : Pair). p .len) (c .before .before .before .pair-at .ensures) in (
       omega arith,
       omega arith,
-      omega (arith, c .length-at .ensures, pair-good _ _ good .1),
-      at .loop .inv .3 ∙ pairs-more n (at .loop .i) _ _ (at .loop .at) _ (omega arith) good ∙ rw (c .length-at .ensures),
+      omega (arith, len, pair-good _ _ good .1),
+      at .loop .inv .3 ∙ pairs-more n (at .loop .i) _ _ (at .loop .at) _ (omega arith) good ∙ rw len,
     )
 
 returns-2 : tie.Need-returns-2 Inv-loop μ-loop
@@ -81,9 +92,9 @@ check-pairs-spec =
     μ-loop
     labels-at-requires
     loop-holds
-    pair-good-requires
+    pair-at-requires
+    pair-fits-requires
     returns
-    length-at-requires
     add-offset
     add-at
     add-i

@@ -1,7 +1,7 @@
 -- The numbers of the record.
 use mathlib.Core.Path.{sym}
 use Rattle.sheet_format.specs.Check.{recordNumber}
-use Rattle.sheet_format.proofs.Parts.{part-rest}
+use Rattle.words.proofs.Parts.{part-rest}
 use borrow.Author.Needs.{needs}
 use Rattle.sheet_format.proofs.records.check_record.Statement.{statement}
 use Rattle.sheet_format.proofs.records.check_record.Tie as tie

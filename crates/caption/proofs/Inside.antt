@@ -1,0 +1,70 @@
+-- Pairs that are in turn lie inside the bytes in which they stand.
+use Prim.Native.Nat.{ℕ, zero, suc, _+_, _*_, _≤_, _<_}
+use mathlib.Core.Path.{_≡_, sym, ap, _∙_}
+use mathlib.Core.Bool.{Bool, true, false, _&&_}
+use mathlib.Core.List.{List}
+use native.Mathlib.Nat.{not-suc-le-zero, le-of-suc-le-suc}
+use native.Mathlib.Omega.{arith}
+use borrow.Author.Tests.{eqb-true}
+use lib.Dec.{eqb}
+use lib.ListN.{drop}
+use lib.Seq.{drop-drop}
+use Rattle.refusal.specs.Refusal.{accepted, badCaption}
+use Rattle.label.specs.Label.{sameText}
+use Rattle.words.specs.Pairs.{pairSize, offsetIn, lengthIn, pairIn, partOf, pairsInTurn}
+use Rattle.steps.proofs.Tests.{and-true}
+use Rattle.sheet_format.proofs.Accepted.{passed-good}
+use Rattle.caption.specs.Captions.{codeSize, anyLength, matched, earlier, firstMatch}
+use Rattle.caption.proofs.Turns.{not-both}
+
+module _ (fits : ℕ → Bool) (badPair badEnd len : ℕ) where
+  -- what the first pair says, and the others
+  pub record Front (offset k : ℕ) (pairs : List ℕ) : Type 0 where
+    pub starts : offsetIn pairs ≡ offset
+    pub rest : pairsInTurn fits (suc badPair) (suc badEnd) len (offset + lengthIn pairs) k (drop pairSize pairs) ≡ accepted
+
+  pub front : (offset k : ℕ) (pairs : List ℕ) → pairsInTurn fits (suc badPair) (suc badEnd) len offset (suc k) pairs ≡ accepted → Front offset k pairs
+  unfolding pairsInTurn
+  front offset k pairs e =
+      let p = passed-good (eqb (offsetIn pairs) offset && fits (lengthIn pairs)) badPair _ e in
+      record { starts = eqb-true _ _ (and-true _ _ (p .0) .0); rest = p .1 }
+
+  pub ends : (offset k : ℕ) (pairs : List ℕ) → pairsInTurn fits (suc badPair) (suc badEnd) len offset k pairs ≡ accepted → offset ≤ len
+  unfolding pairsInTurn
+  ends offset zero pairs e = omega (arith, eqb-true offset len (passed-good _ badEnd _ e .0))
+  ends offset (suc k) pairs e =
+      let f = front offset k pairs e in
+      omega (arith, ends (offset + lengthIn pairs) k (drop pairSize pairs) (f .rest))
+
+  -- pair i of k ends where the bytes do, or before
+  pub inside : (offset k : ℕ) (pairs : List ℕ) → pairsInTurn fits (suc badPair) (suc badEnd) len offset k pairs ≡ accepted → (i : ℕ) → i < k
+      → offsetIn (drop (pairSize * i) pairs) + lengthIn (drop (pairSize * i) pairs) ≤ len
+  inside offset zero pairs e i h = absurd (not-suc-le-zero h)
+  inside offset (suc k) pairs e zero h =
+      let f = front offset k pairs e in
+      omega (arith, f .starts, ends (offset + lengthIn pairs) k (drop pairSize pairs) (f .rest))
+  inside offset (suc k) pairs e (suc i) h =
+      let f = front offset k pairs e in
+      let n : pairSize + pairSize * i ≡ pairSize * suc i = omega arith in
+      let d : drop (pairSize * i) (drop pairSize pairs) ≡ drop (pairSize * suc i) pairs = drop-drop (pairSize * i) pairSize pairs ∙ ap (λ (m : ℕ). drop m pairs) n in
+      rw (← d) (inside (offset + lengthIn pairs) k (drop pairSize pairs) (f .rest) i (le-of-suc-le-suc h))
+
+-- the words of a match among the codes of a list lie inside it
+pub match-inside : (list label : List ℕ) (len offset k : ℕ) (pairs : List ℕ) → pairsInTurn anyLength badCaption badCaption len offset (2 * k) pairs ≡ accepted → firstMatch list label k pairs .found ≡ true
+    → firstMatch list label k pairs .words .offset + firstMatch list label k pairs .words .len ≤ len
+unfolding firstMatch
+match-inside list label len offset zero pairs e f = not-both (sym f)
+match-inside list label len offset (suc k) pairs e f =
+    let two : 2 * suc k ≡ suc (suc (2 * k)) = omega arith in
+    let code = front anyLength 15 15 len offset (suc (2 * k)) pairs (rw two at e) in
+    let words = front anyLength 15 15 len (offset + lengthIn pairs) (2 * k) (drop pairSize pairs) (code .rest) in
+    let here : offsetIn (drop pairSize pairs) + lengthIn (drop pairSize pairs) ≤ len = omega (arith, words .starts, ends anyLength 15 15 len _ (2 * k) _ (words .rest)) in
+    let rest : pairsInTurn anyLength badCaption badCaption len (offset + lengthIn pairs + lengthIn (drop pairSize pairs)) (2 * k) (drop codeSize pairs) ≡ accepted = rw (← drop-drop pairSize pairSize pairs) (words .rest) in
+    chosen (sameText (partOf list pairs) label) here (match-inside list label len _ k (drop codeSize pairs) rest) f
+  where
+    chosen : (b : Bool) → offsetIn (drop pairSize pairs) + lengthIn (drop pairSize pairs) ≤ len
+        → (firstMatch list label k (drop codeSize pairs) .found ≡ true → firstMatch list label k (drop codeSize pairs) .words .offset + firstMatch list label k (drop codeSize pairs) .words .len ≤ len)
+        → earlier (matched b (pairIn (drop pairSize pairs))) (firstMatch list label k (drop codeSize pairs)) .found ≡ true
+        → earlier (matched b (pairIn (drop pairSize pairs))) (firstMatch list label k (drop codeSize pairs)) .words .offset + earlier (matched b (pairIn (drop pairSize pairs))) (firstMatch list label k (drop codeSize pairs)) .words .len ≤ len
+    chosen true here later g = here
+    chosen false here later g = later g

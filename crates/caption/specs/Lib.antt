@@ -1,0 +1,2 @@
+pub mod Captions
+pub mod Claim

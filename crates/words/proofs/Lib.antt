@@ -1,0 +1,3 @@
+-- Laws of words and parts.
+pub mod Bytes
+pub mod Parts
