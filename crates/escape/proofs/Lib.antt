@@ -1,0 +1,3 @@
+-- Laws on escaped texts.
+pub mod Plain
+pub mod Text
