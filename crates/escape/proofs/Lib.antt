@@ -1,3 +1,4 @@
 -- Laws on escaped texts.
 pub mod Plain
 pub mod Text
+pub mod Claim

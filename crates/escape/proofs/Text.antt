@@ -1,12 +1,12 @@
 -- The text of a byte, of bytes one more at each turn, and how it is put into a slice.
-use Prim.Native.Nat.{ℕ, _+_, _*_, _/_, _≤_, _<_, min}
+use Prim.Native.Nat.{ℕ, _+_, _*_, _≤_, _<_}
 use mathlib.Core.Path.{_≡_, refl, sym, ap, _∙_}
 use mathlib.Core.Bool.{Bool, true, false}
 use mathlib.Core.List.{List, [], _∷_, _++_, append-assoc, append-nil}
 use native.Mathlib.Numerals.{add-one}
 use native.Mathlib.Omega.{arith}
 use lib.ListN.{length, take, getD, set, length-set, length-append}
-use lib.Seq.{take-suc, sets-eq, length-front}
+use lib.Seq.{take-suc, sets-eq}
 use Rattle.digits.specs.Digits.{hexText, putAt, Put}
 use Rattle.digits.proofs.Length.{length-digits}
 use Rattle.digits.proofs.PutAt.{putAt-nil, putAt-append}
@@ -24,6 +24,7 @@ pub byte-other : (b : ℕ) → plain b ≡ false → escapedByte b ≡ 92 ∷ 12
 unfolding escapedByte
 byte-other b e = rw e
 
+-- four places are enough
 pub byte-few : (b : ℕ) → length (escapedByte b) ≤ 4
 byte-few b = go (plain b) refl
   where
@@ -61,6 +62,7 @@ escaped-snoc : (xs : List ℕ) (b : ℕ) → escaped (xs ++ (b ∷ [])) ≡ esca
 unfolding escaped
 escaped-snoc xs b = escaped-append xs (b ∷ []) ∙ rw (append-nil (escapedByte b))
 
+-- one byte more
 escaped-more : (bytes : List ℕ) (i : ℕ) → i < length bytes → escaped (take (i + 1) bytes) ≡ escaped (take i bytes) ++ escapedByte (getD bytes i 0)
 escaped-more bytes i h = rw (add-one i, take-suc bytes i 0 h) (escaped-snoc (take i bytes) (getD bytes i 0))
 
@@ -74,6 +76,7 @@ pub record Passed (bytes old out : List ℕ) (count used len : ℕ) : Type 0 whe
   pub text : out ≡ putAt (escaped (take used bytes)) 0 old
 
 module _ (bytes old : List ℕ) (count : ℕ) where
+  -- before the first turn
   pub none-passed : count ≡ taken bytes old → Passed bytes old old count 0 0
   unfolding escaped
   none-passed e =
@@ -100,6 +103,7 @@ module _ (bytes old : List ℕ) (count : ℕ) where
         text = w .1 ∙ rw (more, p .text, place) (putAt-append before (escapedByte b) 0 old room);
       }
 
+  -- after the last
   pub all-passed : (out : List ℕ) (used len : ℕ) → Passed bytes old out count used len → count ≤ used
       → (_≡_ {A = Escaped} (record { used = used; len = len }) (escapedBy bytes old)) × (out ≡ escapedRoom bytes old)
   all-passed out used len p h =

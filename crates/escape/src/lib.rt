@@ -4,6 +4,7 @@ ghost use Prim.Native.Nat.{_+_, _≤_, min};
 ghost use lib.ListN.{length};
 ghost use Rattle.digits.specs.Digits.{putAt};
 ghost use Rattle.escape.specs.Escape.{plain, escapedByte, escapedBy, escapedRoom};
+ghost use Rattle.escape.specs.Claim.{Claim};
 
 // How many bytes were taken, and how many bytes their text has.
 pub struct Escaped {
@@ -50,8 +51,14 @@ fn is_plain(byte: u8) -> bool
     byte >= 32 && byte <= 126
 }
 
+// The lesser of two.
 fn least(a: usize, b: usize) -> usize
     ensures { λ r. ⌜ r ≡ min a b ⌝ }
 {
     if a < b { a } else { b }
 }
+
+// What is claimed of the texts, as a contract: without it the crate is not proved.
+pub fn claimed()
+    ensures { λ _. ⌜ Claim ⌝ }
+{}

@@ -1,10 +1,10 @@
 -- The backslash, what is below the space, and the rest.
-use Rattle.escape.proofs.Plain.{plain-not, plain-low, plain-high}
+use Rattle.escape.proofs.Plain.{plain-backslash, plain-low, plain-high}
 use Rattle.escape.proofs.is_plain.Statement.{statement}
 use Rattle.escape.proofs.is_plain.Tie as tie
 
 returns : tie.Need-returns
-returns c = plain-not _ (c .if1 .taken)
+returns c = plain-backslash _ (c .if1 .taken)
 
 returns-2 : tie.Need-returns-2
 returns-2 c = plain-high _ (c .if2 .taken) (c .before .if1 .left)
