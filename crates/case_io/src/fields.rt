@@ -21,13 +21,18 @@ pub fn clock(sink: Sink, buffer: &mut [u8; BUFFER], clock: Clock) -> Sink {
 // A label as hex pairs, or `-`.
 pub fn label(sink: Sink, buffer: &mut [u8; BUFFER], label: Label) -> Sink {
     let n = label::text_len(label);
-    if n == 0 {
+    let bytes = label.bytes;
+    hex(sink, buffer, &bytes[..n])
+}
+
+// Bytes as hex pairs, or `-`.
+pub fn hex(sink: Sink, buffer: &mut [u8; BUFFER], bytes: &[u8]) -> Sink {
+    if bytes.len() == 0 {
         return sink.byte(buffer, b'-');
     }
-    let bytes = label.bytes;
     let mut s = sink;
     let mut i = 0;
-    while i < n {
+    while i < bytes.len() {
         s = s.hex(buffer, bytes[i]);
         i += 1;
     }

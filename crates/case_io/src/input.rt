@@ -1,6 +1,6 @@
 // Standard input: a byte, 0 for text and 1 for digests, and then records, each a u32 n, little-endian, and n bytes.
-use digits::wide_usize;
 use libc::STDIN_FILENO;
+use words::u32_at;
 ghost use Prim.Native.Nat.{_≤_};
 ghost use lib.ListN.{length};
 
@@ -8,6 +8,13 @@ ghost use lib.ListN.{length};
 pub struct Form {
     pub known: bool,
     pub text: bool,
+}
+
+// A u32: whether the input ended before it, whether all of it is there, and the number.
+pub struct Word {
+    pub ended: bool,
+    pub whole: bool,
+    pub n: usize,
 }
 
 // A record: whether the input ended before it, whether all of it is there, and how many of its bytes are.
@@ -28,16 +35,27 @@ pub fn read_form() -> Form {
     }
 }
 
+// Reads the next u32.
+pub fn read_word() -> Word {
+    let mut bytes = [0u8; 4];
+    let got = io::read_full(STDIN_FILENO, &mut bytes);
+    let n = u32_at(&bytes, 0) as usize;
+    Word {
+        ended: got == 0,
+        whole: got == 4,
+        n,
+    }
+}
+
 // Reads the next record into the front of a slice. None of its bytes is there where its length is cut, or above the slice's.
 pub fn read_record(into: &mut [u8]) -> Record
     ensures { λ r. ⌜ r .len ≤ length (now (into .exit)) ⌝ }
 {
-    let mut head = [0u8; 4];
-    let got = io::read_full(STDIN_FILENO, &mut head);
-    let n = word(&head);
-    if got < 4 || n > into.len() {
+    let head = read_word();
+    let n = head.n;
+    if !head.whole || n > into.len() {
         return Record {
-            ended: got == 0,
+            ended: head.ended,
             whole: false,
             len: 0,
         };
@@ -48,14 +66,6 @@ pub fn read_record(into: &mut [u8]) -> Record
         whole: len == n,
         len,
     }
-}
-
-// The four bytes, little-endian.
-fn word(b: &[u8; 4]) -> usize {
-    wide_usize(b[0])
-        + wide_usize(b[1]) * 256
-        + wide_usize(b[2]) * 65_536
-        + wide_usize(b[3]) * 16_777_216
 }
 
 // Reads n bytes, or as many as there are.

@@ -35,7 +35,8 @@ impl Sink {
         s
     }
 
-    fn new(text: bool) -> Sink {
+    // Nothing is taken yet.
+    pub fn new(text: bool) -> Sink {
         Sink {
             text,
             used: 0,

@@ -1,58 +1,26 @@
--- `case_io::fields::label` is safe and ends. The measure is the bytes that are left.
-use Prim.Native.Nat.{_≤_, _-_}
-use native.Mathlib.Omega.{arith}
+-- The label's bytes are lent.
+use mathlib.Core.Path.{sym}
+use lib.Seq.{length-take-le}
+use borrow.Author.Needs.{needs}
 use Rattle.case_io.proofs.fields.label.Statement.{statement}
 use Rattle.case_io.proofs.fields.label.Tie as tie
 
-abbrev Inv-loop : tie.InvT-loop
-Inv-loop buffer₀ n bytes s₀ i₀ buffer s i = (i ≤ n) × (n ≤ 24)
+text-len-requires : tie.Need-text-len-requires
+text-len-requires c κs = search needs
 
-abbrev μ-loop : tie.MeasureT-loop
-μ-loop buffer₀ n bytes s₀ i₀ buffer s i = n - i
+array-share-prefix-bytes : tie.Need-array-share-prefix-bytes
+array-share-prefix-bytes c = search needs
 
-text-len-requires : tie.Need-text-len-requires Inv-loop μ-loop
-text-len-requires c κs = tt
+slice-aggregate-hex : tie.Need-slice-aggregate-hex
+slice-aggregate-hex c = sym (length-take-le _ _ (c .before .before .before .text-len .ensures .1))
 
-byte-requires : tie.Need-byte-requires Inv-loop μ-loop
-byte-requires c κs = tt
+hex-requires : tie.Need-hex-requires
+hex-requires c κs = search needs
 
-returns : tie.Need-returns Inv-loop μ-loop
-returns c = tt
-
-loop-holds : tie.Need-loop-holds Inv-loop μ-loop
-loop-holds c = omega arith
-
-array-read-hex : tie.Need-array-read-hex Inv-loop μ-loop
-array-read-hex c = omega arith
-
-hex-requires : tie.Need-hex-requires Inv-loop μ-loop
-hex-requires c κs = tt
-
-add-i : tie.Need-add-i Inv-loop μ-loop
-add-i c = omega arith
-
-loop-less : tie.Need-loop-less Inv-loop μ-loop
-loop-less c = omega arith
-
-loop-again : tie.Need-loop-again Inv-loop μ-loop
-loop-again c = omega arith
-
-returns-2 : tie.Need-returns-2 Inv-loop μ-loop
-returns-2 c = tt
+returns : tie.Need-returns
+returns c = search needs
 
 pub label-spec : {M : Type 1} → statement M
 label-spec =
     tie.close
-    (tie.spec
-    Inv-loop
-    μ-loop
-    text-len-requires
-    byte-requires
-    returns
-    loop-holds
-    array-read-hex
-    hex-requires
-    add-i
-    loop-less
-    loop-again
-    returns-2)
+    (tie.spec text-len-requires array-share-prefix-bytes slice-aggregate-hex hex-requires returns)
