@@ -7,11 +7,11 @@ use words::PAIR_SIZE;
 use words::Pair;
 use words::pair_at;
 use words::part_at;
+use words::part_of;
 use words::u16_at;
 ghost use mathlib.Core.Path.{_≡_};
-ghost use lib.ListN.{drop};
 ghost use Rattle.label.specs.Label.{sameText};
-ghost use Rattle.words.specs.Pairs.{partOf};
+ghost use Rattle.words.specs.Pairs.{partBy};
 ghost use Rattle.caption.specs.Captions.{noMatch, matched, earlier, lookedUp, refusedLookUp, listNumber, refusedCaption, captionOf, isList};
 
 // Bytes of the number of codes.
@@ -67,11 +67,11 @@ fn earlier(first: Match, second: Match) -> Match
     second
 }
 
-// A match, with these words, where the code whose pair stands at `at` is the label.
-fn match_at(list: &[u8], at: usize, label: &[u8], words: Pair) -> Match
-    ensures { λ r. ⌜ r ≡ matched (sameText (partOf (now (list .entry)) (drop at (now (list .entry)))) (now (label .entry))) words ⌝ }
+// A match, with these words, where the code is the label.
+fn match_of(list: &[u8], code: Pair, words: Pair, label: &[u8]) -> Match
+    ensures { λ r. ⌜ r ≡ matched (sameText (partBy (now (list .entry)) code) (now (label .entry))) words ⌝ }
 {
-    if same_text(part_at(list, at), label) {
+    if same_text(part_of(list, code), label) {
         return Match { found: true, words };
     }
     no_match()
@@ -108,7 +108,7 @@ fn look_up(list: &[u8], label: &[u8]) -> LookUp
             return refused_list();
         }
         offset += words.len;
-        first = earlier(first, match_at(list, at, label, words));
+        first = earlier(first, match_of(list, code, words, label));
         at += CODE_SIZE;
         i += 1;
     }

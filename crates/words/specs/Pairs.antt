@@ -22,9 +22,13 @@ lengthIn pairs = word 2 (drop 2 pairs)
 abbrev pub pairIn : List ℕ → Pair
 pairIn pairs = record { offset = offsetIn pairs; len = lengthIn pairs }
 
--- the bytes that the pair at the front names: a part of s, cut where it ends
+-- the bytes that a pair names: a part of s, cut where it ends
+abbrev pub partBy : List ℕ → Pair → List ℕ
+partBy s pair = take (pair .len) (drop (pair .offset) s)
+
+-- those that the pair at the front names
 abbrev pub partOf : List ℕ → List ℕ → List ℕ
-partOf s pairs = take (lengthIn pairs) (drop (offsetIn pairs) s)
+partOf s pairs = partBy s (pairIn pairs)
 
 -- Pairs in turn: of k pairs the first starts at this offset, "each next where the one before ends", each length fits, and the last
 -- ends all `len` bytes. A pair that is not so has one number, another end has the other.

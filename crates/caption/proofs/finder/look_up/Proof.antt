@@ -89,8 +89,8 @@ add-offset-3 c =
     let t = short (c .before .before .before .before .before .before .before .before .before .before .before .before .before .before .args .list .now) (at .loop .at + 4) _ (c .before .before .before .before .before .before .before .before .before .before .before .before .before .shared-slice-known .given) (c .before .before .before .before .before .before .pair-at2 .ensures) in
     omega arith
 
-match-at-requires : tie.Need-match-at-requires Inv-loop μ-loop
-match-at-requires c κs = search needs
+match-of-requires : tie.Need-match-of-requires Inv-loop μ-loop
+match-of-requires c κs = search needs
 
 earlier-requires : tie.Need-earlier-requires Inv-loop μ-loop
 earlier-requires c κs = search needs
@@ -116,7 +116,7 @@ loop-again c =
       at .loop .inv .1,
       omega arith,
       omega arith,
-      more _ _ _ (at .loop .i) _ (at .loop .at) _ (at .loop .inv .4) _ _ read under (c .before .before .before .before .before .before .if1 .left) (c .before .before .before .if2 .left) _ _ (c .before .match-at .ensures) (c .earlier .ensures),
+      more _ _ _ (at .loop .i) _ (at .loop .at) _ (at .loop .inv .4) _ _ read under (c .before .before .before .before .before .before .if1 .left) (c .before .before .before .if2 .left) _ _ (c .before .match-of .ensures) (c .earlier .ensures),
     )
 
 refused-list-requires-3 : tie.Need-refused-list-requires-3 Inv-loop μ-loop
@@ -153,7 +153,7 @@ look-up-spec =
     refused-list-requires-2
     returns-2
     add-offset-3
-    match-at-requires
+    match-of-requires
     earlier-requires
     add-at
     add-i
