@@ -149,7 +149,7 @@ pub fn find_caption(list: &[u8], sheet: &[u8], entry: usize) -> Caption
     if number != ACCEPTED {
         return refused(number);
     }
-    if entry >= (sheet[1] as usize) {
+    if entry >= sheet_format::count(sheet) {
         return refused(BAD_CAPTION);
     }
     let at = HEADER_SIZE + PAIR_SIZE * entry;

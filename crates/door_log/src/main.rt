@@ -6,8 +6,10 @@ use call_log::Log;
 use call_log::MAX_SHEET;
 use libc::STDERR_FILENO;
 use libc::STDIN_FILENO;
-use libc::STDOUT_FILENO;
 use steps::least;
+use streams::Got;
+use streams::read_to;
+use streams::write_front;
 ghost use Prim.Native.Nat.{_+_, _≤_};
 ghost use mathlib.Core.Path.{_≡_};
 ghost use mathlib.Core.List.{_++_};
@@ -21,12 +23,6 @@ const CHUNK: usize = 65_536;
 
 // How much of the log is written at once.
 const OUT: usize = 65_536;
-
-// How many bytes were read, and whether the last read failed.
-struct Got {
-    count: usize,
-    failed: bool,
-}
 
 // Where the program stands: the part of what was read that is not used yet, whether there is more to do, and the log.
 struct Door {
@@ -60,39 +56,15 @@ fn main() {
 
 // Reads the two bytes that say how long the sheet is, and the sheet, or as much as there is.
 fn read_front(front: &mut [u8]) -> Got
-    requires { ⌜ 2574 ≤ length (now front) ⌝ }
     ensures { λ r. ⌜ r .count ≤ length (now (front .exit)) ⌝ }
 {
-    let head = read_to(front, 0, 2);
+    let head = read_to(STDIN_FILENO, front, 0, 2);
     if head.failed {
         return head;
     }
     let n = head.count;
     let len = least(call_log::sheet_len(&front[..n]), MAX_SHEET);
-    read_to(front, n, n + len)
-}
-
-// Reads until the bytes are there to this place, the input ends, or a read fails.
-fn read_to(bytes: &mut [u8], from: usize, to: usize) -> Got
-    requires { ⌜ (from ≤ to) × (to ≤ length (now bytes)) ⌝ }
-    ensures { λ r. ⌜ r .count ≤ to ⌝ }
-{
-    let mut count = from;
-    while count < to {
-        let got = libc::read(STDIN_FILENO, &mut bytes[count..to]);
-        let more = least(io::count(got, bytes), to - count);
-        if more == 0 {
-            return Got {
-                count,
-                failed: got < 0,
-            };
-        }
-        count += more;
-    }
-    Got {
-        count,
-        failed: false,
-    }
+    read_to(STDIN_FILENO, front, n, n + len)
 }
 
 // The calls, to the end of the input. A proved loop has to end, and nothing says that the input does: so it counts its turns down,
@@ -181,8 +153,7 @@ fn write_line(line: &[u8; LINE], len: usize) -> bool {
 // Writes the first `len` bytes, and says whether it could. After the first failure nothing more is written: what stands there is the
 // log's beginning.
 fn write(bytes: &[u8], len: usize) -> bool {
-    let n = least(len, bytes.len());
-    let written = io::write_all(STDOUT_FILENO, &bytes[..n]);
+    let written = write_front(bytes, len);
     if !written {
         not_written();
     }

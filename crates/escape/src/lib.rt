@@ -1,6 +1,7 @@
 // Bytes as text that a person can read: printable ASCII as it is, every other byte, and the backslash, as `\x` and two hex digits.
+use steps::least;
 ghost use mathlib.Core.Path.{_≡_};
-ghost use Prim.Native.Nat.{_+_, _≤_, min};
+ghost use Prim.Native.Nat.{_+_, _≤_};
 ghost use lib.ListN.{length};
 ghost use Rattle.digits.specs.Digits.{putAt};
 ghost use Rattle.escape.specs.Escape.{plain, escapedByte, escapedBy, escapedRoom};
@@ -49,13 +50,6 @@ fn is_plain(byte: u8) -> bool
         return false;
     }
     byte >= 32 && byte <= 126
-}
-
-// The lesser of two.
-fn least(a: usize, b: usize) -> usize
-    ensures { λ r. ⌜ r ≡ min a b ⌝ }
-{
-    if a < b { a } else { b }
 }
 
 // What is claimed of the texts, as a contract: without it the crate is not proved.

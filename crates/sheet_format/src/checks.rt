@@ -1,5 +1,6 @@
 // The checks of a sheet, in the order of paper 01.
 use crate::header::check_header;
+use crate::header::count;
 use crate::pairs::check_pairs;
 use crate::records::check_records;
 use refusal::ACCEPTED;
@@ -14,7 +15,7 @@ pub fn check(sheet: &[u8]) -> u8
     if header != ACCEPTED {
         return header;
     }
-    let n = sheet[1] as usize;
+    let n = count(sheet);
     let pairs = check_pairs(sheet, n);
     if pairs != ACCEPTED {
         return pairs;

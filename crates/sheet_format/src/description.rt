@@ -1,5 +1,6 @@
 // What a sheet describes, with floats as raw bits.
 use crate::checks::check;
+use crate::header;
 use crate::header::loop_of;
 use crate::header::records_at;
 use crate::records::placement_of;
@@ -124,7 +125,7 @@ fn description_in(sheet: &[u8]) -> Description
     requires { ⌜ (countIn (now sheet) ≤ maxEntries) × (labelsAt (countIn (now sheet)) ≤ length (now sheet)) ⌝ }
     ensures { λ r. ⌜ r ≡ descriptionIn (now (sheet .entry)) ⌝ }
 {
-    let count = sheet[1] as usize;
+    let count = header::count(sheet);
     let looping = loop_of(sheet[2], u32_at(sheet, 4));
     let time_scale = u32_at(sheet, 8);
     let items = items_in(sheet, count);

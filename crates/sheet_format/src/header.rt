@@ -14,7 +14,7 @@ ghost use Prim.Native.Nat.{_≤_};
 ghost use lib.ListN.{length};
 ghost use Rattle.digits.specs.Digits.{putAt};
 ghost use Rattle.sheet_rules.specs.Rules.{headerSize, labelsAt};
-ghost use Rattle.sheet_format.specs.Check.{recordsAt, headerNumber};
+ghost use Rattle.sheet_format.specs.Check.{recordsAt, countIn, headerNumber};
 ghost use Rattle.sheet_format.specs.Descriptions.{loopOf};
 ghost use Rattle.sheet_format.specs.Write.{modeOf, numberOf, headerBytes};
 
@@ -32,6 +32,16 @@ pub(crate) fn labels_at(n: usize) -> usize
     ensures { λ r. ⌜ r ≡ labelsAt n ⌝ }
 {
     HEADER_SIZE + (PAIR_SIZE + RECORD_SIZE) * n
+}
+
+// How many entries the header says; 0 where it is cut before that.
+pub fn count(sheet: &[u8]) -> usize
+    ensures { λ r. ⌜ r ≡ countIn (now (sheet .entry)) ⌝ }
+{
+    if sheet.len() < 2 {
+        return 0;
+    }
+    sheet[1] as usize
 }
 
 // The number by which the header is refused; where it is accepted, all pairs and records are in the sheet.

@@ -1,7 +1,7 @@
 // The stored sheet (paper 01, "The sheet"): what it describes, its checks, its reader and its writer. Header, pairs and records stand apart.
 pub mod checks;
 pub mod description;
-mod header;
+pub mod header;
 mod pairs;
 mod put;
 mod records;
@@ -9,4 +9,5 @@ pub mod writing;
 
 pub use checks::check;
 pub use description::describe;
+pub use header::count;
 pub use writing::write;

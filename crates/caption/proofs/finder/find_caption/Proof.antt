@@ -30,13 +30,8 @@ returns c =
     let a = c .before .before .before .before .before .args in
     c .refused .ensures ∙ sheet-refuses (a .list .now) (a .sheet .now) (a .entry) _ (c .before .before .check .ensures) (c .before .if1 .taken)
 
-shared-slice-read-if2 : tie.Need-shared-slice-read-if2
-shared-slice-read-if2 c =
-    let ok = accepted-sheet (c .before .before .before .before .before .args .sheet .now) (sym (c .before .before .check .ensures) ∙ c .before .if1 .left) in
-    omega (arith, ok .header .long)
-
-cast-if2 : tie.Need-cast-if2
-cast-if2 c = omega (arith, c .shared-slice-known3 .given 1)
+count-requires : tie.Need-count-requires
+count-requires c κs = search needs
 
 refused-requires-2 : tie.Need-refused-requires-2
 refused-requires-2 c κs = search needs
@@ -45,13 +40,17 @@ returns-2 : tie.Need-returns-2
 returns-2 c =
     let a = c .before .before .before .before .before .before .before .args in
     let ok = sym (c .before .before .before .before .check .ensures) ∙ c .before .before .before .if1 .left in
-    c .refused2 .ensures ∙ entry-refuses (a .list .now) (a .sheet .now) (a .entry) ok (c .before .if2 .taken)
+    c .refused2 .ensures ∙ entry-refuses (a .list .now) (a .sheet .now) (a .entry) ok (rw (← c .before .before .count .ensures) (c .before .if2 .taken))
 
 mul-at : tie.Need-mul-at
-mul-at c = omega (arith, c .if2 .left, c .before .shared-slice-known3 .given 1)
+mul-at c =
+    let ok = accepted-sheet (c .before .before .before .before .before .before .args .sheet .now) (sym (c .before .before .before .check .ensures) ∙ c .before .before .if1 .left) in
+    omega (arith, c .if2 .left, c .before .count .ensures, ok .header .few)
 
 add-at : tie.Need-add-at
-add-at c = omega (arith, c .if2 .left, c .before .shared-slice-known3 .given 1)
+add-at c =
+    let ok = accepted-sheet (c .before .before .before .before .before .before .args .sheet .now) (sym (c .before .before .before .check .ensures) ∙ c .before .before .if1 .left) in
+    omega (arith, c .if2 .left, c .before .count .ensures, ok .header .few)
 
 part-at-requires : tie.Need-part-at-requires
 part-at-requires c κs = search needs
@@ -73,7 +72,7 @@ returns-4 c =
     let a = c .before .before .before .before .before .before .before .before .before .before .before .before .before .args in
     let ok = sym (c .before .before .before .before .before .before .before .before .before .before .check .ensures) ∙ c .before .before .before .before .before .before .before .before .before .if1 .left in
     let own = pairIn (labelPair (a .sheet .now) (a .entry)) in
-    sym (yes _ (shownFrom Venue (c .before .before .before .before .before .look-up .result .first .words)) (shownFrom Sheet own) (c .before .if4 .taken)) ∙ shown (a .list .now) (a .sheet .now) (a .entry) _ _ ok (c .before .before .before .before .before .look-up .ensures) own (c .before .before .before .if3 .left) (c .before .before .before .before .before .before .before .if2 .left) (c .before .before .before .before .before .before .part-at .ensures) refl
+    sym (yes _ (shownFrom Venue (c .before .before .before .before .before .look-up .result .first .words)) (shownFrom Sheet own) (c .before .if4 .taken)) ∙ shown (a .list .now) (a .sheet .now) (a .entry) _ _ ok (c .before .before .before .before .before .look-up .ensures) own (c .before .before .before .if3 .left) (rw (← c .before .before .before .before .before .before .before .before .count .ensures) (c .before .before .before .before .before .before .before .if2 .left)) (c .before .before .before .before .before .before .part-at .ensures) refl
 
 pair-at-requires : tie.Need-pair-at-requires
 pair-at-requires c κs = search needs
@@ -82,7 +81,7 @@ returns-5 : tie.Need-returns-5
 returns-5 c =
     let a = c .before .before .before .before .before .before .before .before .before .before .before .before .before .args in
     let ok = sym (c .before .before .before .before .before .before .before .before .before .before .check .ensures) ∙ c .before .before .before .before .before .before .before .before .before .if1 .left in
-    sym (no _ (shownFrom Venue (c .before .before .before .before .before .look-up .result .first .words)) (shownFrom Sheet (c .pair-at .result)) (c .before .if4 .left)) ∙ shown (a .list .now) (a .sheet .now) (a .entry) _ _ ok (c .before .before .before .before .before .look-up .ensures) (c .pair-at .result) (c .before .before .before .if3 .left) (c .before .before .before .before .before .before .before .if2 .left) (c .before .before .before .before .before .before .part-at .ensures) (c .pair-at .ensures)
+    sym (no _ (shownFrom Venue (c .before .before .before .before .before .look-up .result .first .words)) (shownFrom Sheet (c .pair-at .result)) (c .before .if4 .left)) ∙ shown (a .list .now) (a .sheet .now) (a .entry) _ _ ok (c .before .before .before .before .before .look-up .ensures) (c .pair-at .result) (c .before .before .before .if3 .left) (rw (← c .before .before .before .before .before .before .before .before .count .ensures) (c .before .before .before .before .before .before .before .if2 .left)) (c .before .before .before .before .before .before .part-at .ensures) (c .pair-at .ensures)
 
 pub find-caption-spec : {M : Type 1} → statement M
 find-caption-spec =
@@ -91,8 +90,7 @@ find-caption-spec =
     check-requires
     refused-requires
     returns
-    shared-slice-read-if2
-    cast-if2
+    count-requires
     refused-requires-2
     returns-2
     mul-at

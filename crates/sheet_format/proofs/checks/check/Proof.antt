@@ -1,6 +1,5 @@
 -- Header, pairs and records in turn.
 use mathlib.Core.Path.{sym, _∙_}
-use native.Mathlib.Omega.{arith}
 use borrow.Author.Tests.{eq-eqb, ne-eqb}
 use Rattle.sheet_format.specs.Check.{checkNumber}
 use Rattle.sheet_format.proofs.Accepted.{header-accepted}
@@ -15,39 +14,31 @@ returns : tie.Need-returns
 unfolding checkNumber
 returns c = simp (sym (c .before .check-header .ensures), ne-eqb _ _ (c .if1 .taken))
 
-shared-slice-read-n : tie.Need-shared-slice-read-n
-shared-slice-read-n c =
-    let h = header-accepted _ (sym (c .before .before .check-header .ensures) ∙ c .before .if1 .left) in
-    omega (arith, h .long)
-
-cast-n : tie.Need-cast-n
-cast-n c = omega (arith, c .shared-slice-known2 .given 1)
+count-requires : tie.Need-count-requires
+count-requires c κs = search needs
 
 check-pairs-requires : tie.Need-check-pairs-requires
 check-pairs-requires c κs =
     let h = header-accepted _ (sym (c .before .before .check-header .ensures) ∙ c .before .if1 .left) in
-    (h .few, h .room)
+    rw (c .count .ensures) (h .few, h .room)
 
 returns-2 : tie.Need-returns-2
 unfolding checkNumber
 returns-2 c =
-    simp (sym (c .before .before .before .before .check-header .ensures), eq-eqb _ _ (c .before .before .before .if1 .left), sym (c .before .check-pairs .ensures), ne-eqb _ _ (c .if2 .taken))
+    let pairs = rw (c .before .before .count .ensures) at (c .before .check-pairs .ensures) in
+    simp (sym (c .before .before .before .before .check-header .ensures), eq-eqb _ _ (c .before .before .before .if1 .left), sym pairs, ne-eqb _ _ (c .if2 .taken))
 
 check-records-requires : tie.Need-check-records-requires
 check-records-requires c κs =
     let h = header-accepted _ (sym (c .before .before .before .before .check-header .ensures) ∙ c .before .before .before .if1 .left) in
-    (h .few, h .room)
+    rw (c .before .before .count .ensures) (h .few, h .room)
 
 returns-3 : tie.Need-returns-3
 unfolding checkNumber
 returns-3 c =
-    simp (
-      sym (c .before .before .before .before .before .check-header .ensures),
-      eq-eqb _ _ (c .before .before .before .before .if1 .left),
-      sym (c .before .before .check-pairs .ensures),
-      eq-eqb _ _ (c .before .if2 .left),
-      sym (c .check-records .ensures),
-    )
+    let pairs = rw (c .before .before .before .count .ensures) at (c .before .before .check-pairs .ensures) in
+    let records = rw (c .before .before .before .count .ensures) at (c .check-records .ensures) in
+    simp (sym (c .before .before .before .before .before .check-header .ensures), eq-eqb _ _ (c .before .before .before .before .if1 .left), sym pairs, eq-eqb _ _ (c .before .if2 .left), sym records)
 
 pub check-spec : {M : Type 1} → statement M
 check-spec =
@@ -55,8 +46,7 @@ check-spec =
     (tie.spec
     check-header-requires
     returns
-    shared-slice-read-n
-    cast-n
+    count-requires
     check-pairs-requires
     returns-2
     check-records-requires

@@ -4,11 +4,8 @@ use borrow.Author.Needs.{needs}
 use Rattle.sheet_format.proofs.description.description_in.Statement.{statement}
 use Rattle.sheet_format.proofs.description.description_in.Tie as tie
 
-shared-slice-read-count : tie.Need-shared-slice-read-count
-shared-slice-read-count c = search needs
-
-cast-count : tie.Need-cast-count
-cast-count c = search needs
+count-requires : tie.Need-count-requires
+count-requires c κs = search needs
 
 shared-slice-read-loop-of : tie.Need-shared-slice-read-loop-of
 shared-slice-read-loop-of c = search needs
@@ -23,7 +20,9 @@ u32-at-requires-2 : tie.Need-u32-at-requires-2
 u32-at-requires-2 c κs = search needs
 
 items-in-requires : tie.Need-items-in-requires
-items-in-requires c κs = search needs
+items-in-requires c κs =
+    let p = c .before .before .before .before .before .before .pre in
+    rw (c .before .before .before .before .count .ensures) (p .0, p .1)
 
 returns : tie.Need-returns
 unfolding descriptionIn
@@ -31,15 +30,15 @@ returns c =
     let number = c .before .before .before .u32-at .ensures in
     let looping = c .before .before .loop-of .ensures in
     let scale = c .before .u32-at2 .ensures in
-    let items = c .items-in .ensures in
+    let count = c .before .before .before .before .before .count .ensures in
+    let items = rw count at (c .items-in .ensures) in
     cc
 
 pub description-in-spec : {M : Type 1} → statement M
 description-in-spec =
     tie.close
     (tie.spec
-    shared-slice-read-count
-    cast-count
+    count-requires
     shared-slice-read-loop-of
     u32-at-requires
     loop-of-requires

@@ -1,20 +1,26 @@
--- `door_log::read_to` is safe and ends: each turn has bytes more. The measure is the bytes that are wanted.
+-- `streams::read_to` is safe and ends: each turn has bytes more. The measure is the bytes that are wanted.
 use Prim.Native.Nat.{_-_, _≤_}
 use mathlib.Core.Path.{_≡_, refl}
 use native.Mathlib.Omega.{arith}
 use lib.ListN.{length}
 use borrow.Author.Needs.{needs}
-use Rattle.door_log.proofs.read_to.Statement.{statement}
-use Rattle.door_log.proofs.read_to.Tie as tie
+use Rattle.streams.proofs.read_to.Statement.{statement}
+use Rattle.streams.proofs.read_to.Tie as tie
 
 abbrev Inv-loop : tie.InvT-loop
-Inv-loop bytes₀ from to count₀ bytes count = (count ≤ to) × (to ≤ length bytes) × (length bytes ≡ length bytes₀)
+Inv-loop fd bytes₀ from to end count₀ bytes count = (count ≤ end) × (end ≤ length bytes) × (length bytes ≡ length bytes₀)
 
 abbrev μ-loop : tie.MeasureT-loop
-μ-loop bytes₀ from to count₀ bytes count = to - count
+μ-loop fd bytes₀ from to end count₀ bytes count = end - count
+
+least-requires : tie.Need-least-requires Inv-loop μ-loop
+least-requires c κs = search needs
+
+least-requires-2 : tie.Need-least-requires-2 Inv-loop μ-loop
+least-requires-2 c κs = search needs
 
 loop-holds : tie.Need-loop-holds Inv-loop μ-loop
-loop-holds c = (omega arith, omega arith, refl)
+loop-holds c = (omega (arith, c .least2 .ensures), omega (arith, c .before .least .ensures), refl)
 
 sub-read : tie.Need-sub-read Inv-loop μ-loop
 sub-read c = omega arith
@@ -34,8 +40,8 @@ count-requires c κs = search needs
 sub-least : tie.Need-sub-least Inv-loop μ-loop
 sub-least c = omega arith
 
-least-requires : tie.Need-least-requires Inv-loop μ-loop
-least-requires c κs = search needs
+least-requires-3 : tie.Need-least-requires-3 Inv-loop μ-loop
+least-requires-3 c κs = search needs
 
 same-length : tie.Need-same-length Inv-loop μ-loop
 same-length c = search needs
@@ -64,6 +70,8 @@ read-to-spec =
     (tie.spec
     Inv-loop
     μ-loop
+    least-requires
+    least-requires-2
     loop-holds
     sub-read
     part-read-start
@@ -71,7 +79,7 @@ read-to-spec =
     read-requires
     count-requires
     sub-least
-    least-requires
+    least-requires-3
     same-length
     returns
     add-count
