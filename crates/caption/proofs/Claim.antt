@@ -22,6 +22,7 @@ use Rattle.caption.specs.Claim.{codePairs, codeAt, First, Holds, Claim}
 use Rattle.caption.proofs.Turns.{not-both}
 use Rattle.caption.proofs.Numbers.{accepted-by, refused-by}
 use Rattle.caption.proofs.Inside.{inside, match-inside}
+use Rattle.caption.proofs.Labels.{label-of}
 use Rattle.caption.proofs.First.{pairsOf, finds, finds-none}
 
 module _ (list sheet : List ℕ) (entry : ℕ) where
@@ -87,6 +88,7 @@ module _ (list sheet : List ℕ) (entry : ℕ) where
       record {
         first = wins;
         own = λ e d. (itself e d, rw (itself e d));
+        label = λ e. label-of sheet entry (good e .sheet-good) (good e .below);
         inside = lies (eqb (captionNumber list sheet entry) accepted) refl;
         refused = λ d. (sym (refused-by list sheet entry _ refl d), rw (← refused-by list sheet entry _ refl d));
       }

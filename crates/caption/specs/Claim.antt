@@ -2,9 +2,11 @@
 use Prim.Native.Nat.{ℕ, _+_, _*_, _<_, _≤_}
 use mathlib.Core.Path.{_≡_}
 use mathlib.Core.List.{List, []}
-use lib.ListN.{length, drop}
+use lib.ListN.{length, drop, getD}
 use Rattle.refusal.specs.Refusal.{accepted}
+use Rattle.label.specs.Label.{text}
 use Rattle.words.specs.Pairs.{pairSize, pairIn, partOf}
+use Rattle.sheet_format.specs.Descriptions.{blankItem, sheetItems}
 use Rattle.caption.specs.declared.finder.Source.the-variants.{Sheet, List as Venue}
 use Rattle.caption.specs.Captions.{codesIn, codeSize, textAt, pairsAt, labelPair, labelIn, captionNumber, refusedCaption, shownFrom, captionOf, named, bytesOf}
 
@@ -24,14 +26,17 @@ pub record First (list label : List ℕ) (k : ℕ) : Type 0 where
 -- Of an accepted call:
 -- 1. the first equal code wins: the caption is its words, a part of the list;
 -- 2. where no code is equal, the caption is the label itself, a part of the sheet;
--- 3. the part lies inside the slice that is named, so that it is as long as the answer says.
+-- 3. the label is that of the entry as the sheet's reader describes it.
+-- Of every call:
+-- 4. the part lies inside the slice that is named, so that it is as long as the answer says.
 -- Of a refused call:
--- 4. the caption is the empty start of the sheet.
+-- 5. the caption is the empty start of the sheet.
 pub record Holds (list sheet : List ℕ) (entry : ℕ) : Type 0 where
   pub first : captionNumber list sheet entry ≡ accepted → (k : ℕ) → First list (labelIn sheet entry) k
       → captionOf list sheet entry ≡ shownFrom Venue (pairIn (drop pairSize (codePairs list k)))
   pub own : captionNumber list sheet entry ≡ accepted → ((k : ℕ) → k < codesIn list → codeAt list k ≡ labelIn sheet entry → ⊥)
       → (captionOf list sheet entry ≡ shownFrom Sheet (pairIn (labelPair sheet entry))) × (bytesOf (captionOf list sheet entry) list sheet ≡ labelIn sheet entry)
+  pub label : captionNumber list sheet entry ≡ accepted → labelIn sheet entry ≡ text (getD (sheetItems sheet) entry blankItem .label)
   pub inside : captionOf list sheet entry .at + captionOf list sheet entry .len ≤ length (named (captionOf list sheet entry .source) list sheet)
   pub refused : (captionNumber list sheet entry ≡ accepted → ⊥)
       → (captionOf list sheet entry ≡ refusedCaption (captionNumber list sheet entry)) × (bytesOf (captionOf list sheet entry) list sheet ≡ [])
