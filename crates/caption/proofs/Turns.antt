@@ -160,13 +160,13 @@ module _ (list label : List ℕ) (n i offset at : ℕ) (first : Match) (passed :
     pub bad-words : code .offset ≡ offset → (words .offset ≡ offset + code .len → ⊥) → refusedLookUp ≡ lookedUp list label
     bad-words e d = refused (passed .shape ∙ words-late list n i offset at code words read h e d)
 
-    pub more : code .offset ≡ offset → words .offset ≡ offset + code .len → (m next : Match) → m ≡ matched (sameText (partBy list code) label) words → next ≡ earlier first m
+    pub more : code .offset ≡ offset → words .offset ≡ offset + code .len → (next : Match) → next ≡ earlier first (matched (sameText (partBy list code) label) words)
         → Passed list label n (i + 1) (offset + code .len + words .len) (at + codeSize) next
-    more e f m next g p =
+    more e f next p =
         let d = drop-drop pairSize at list in
         let code-is = ap (λ (p : Pair). matched (sameText (partBy list p) label) words) (read .first) in
         let words-are = ap (λ (w : Pair). matched (sameText (partOf list (drop at list)) label) w) (read .second) in
-        let here : m ≡ matchIn list label (drop at list) = rw d (g ∙ code-is ∙ words-are) in
+        let here : matched (sameText (partBy list code) label) words ≡ matchIn list label (drop at list) = rw d (code-is ∙ words-are) in
         let rest = firstMatch list label (n - (i + 1)) (drop (at + codeSize) list) in
         let now : next ≡ earlier first (matchIn list label (drop at list)) = p ∙ ap (λ (x : Match). earlier first x) here in
         record {

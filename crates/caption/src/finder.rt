@@ -57,16 +57,6 @@ fn no_match() -> Match
     }
 }
 
-// The first of two matches.
-fn earlier(first: Match, second: Match) -> Match
-    ensures { λ r. ⌜ r ≡ earlier first second ⌝ }
-{
-    if first.found {
-        return first;
-    }
-    second
-}
-
 // A match, with these words, where the code is the label.
 fn match_of(list: &[u8], code: Pair, words: Pair, label: &[u8]) -> Match
     ensures { λ r. ⌜ r ≡ matched (sameText (partBy (now (list .entry)) code) (now (label .entry))) words ⌝ }
@@ -75,6 +65,16 @@ fn match_of(list: &[u8], code: Pair, words: Pair, label: &[u8]) -> Match
         return Match { found: true, words };
     }
     no_match()
+}
+
+// The first match so far or, where there is none, that of this code.
+fn first_of(first: Match, list: &[u8], code: Pair, words: Pair, label: &[u8]) -> Match
+    ensures { λ r. ⌜ r ≡ earlier first (matched (sameText (partBy (now (list .entry)) code) (now (label .entry))) words) ⌝ }
+{
+    if first.found {
+        return first;
+    }
+    match_of(list, code, words, label)
 }
 
 // A list that is refused has no match.
@@ -108,7 +108,7 @@ fn look_up(list: &[u8], label: &[u8]) -> LookUp
             return refused_list();
         }
         offset += words.len;
-        first = earlier(first, match_of(list, code, words, label));
+        first = first_of(first, list, code, words, label);
         at += CODE_SIZE;
         i += 1;
     }

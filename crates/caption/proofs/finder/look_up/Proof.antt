@@ -89,11 +89,8 @@ add-offset-3 c =
     let t = short (c .before .before .before .before .before .before .before .before .before .before .before .before .before .before .args .list .now) (at .loop .at + 4) _ (c .before .before .before .before .before .before .before .before .before .before .before .before .before .shared-slice-known .given) (c .before .before .before .before .before .before .pair-at2 .ensures) in
     omega arith
 
-match-of-requires : tie.Need-match-of-requires Inv-loop μ-loop
-match-of-requires c κs = search needs
-
-earlier-requires : tie.Need-earlier-requires Inv-loop μ-loop
-earlier-requires c κs = search needs
+first-of-requires : tie.Need-first-of-requires Inv-loop μ-loop
+first-of-requires c κs = search needs
 
 add-at : tie.Need-add-at Inv-loop μ-loop
 add-at c = omega arith
@@ -106,17 +103,17 @@ loop-less c = omega arith
 
 loop-again : tie.Need-loop-again Inv-loop μ-loop
 loop-again c =
-    let at = c .before .before .before .before .before .before .before .before .before .before .before in
-    let list = c .before .before .before .before .before .before .before .before .before .before .before .before .before .before .before .before .args .list .now in
-    let under = c .before .before .before .before .before .before .before .before .before .before .loop-test .taken in
-    let s = short list (at .loop .at) _ (c .before .before .before .before .before .before .before .before .before .before .before .before .before .before .before .shared-slice-known .given) (c .before .before .before .before .before .before .before .before .before .pair-at .ensures) in
-    let t = short list (at .loop .at + 4) _ (c .before .before .before .before .before .before .before .before .before .before .before .before .before .before .before .shared-slice-known .given) (c .before .before .before .before .before .before .before .before .pair-at2 .ensures) in
-    let read = reads list (at .loop .at) _ _ (c .before .before .before .before .before .before .before .before .before .pair-at .ensures) (c .before .before .before .before .before .before .before .before .pair-at2 .ensures) in (
+    let at = c .before .before .before .before .before .before .before .before .before .before in
+    let list = c .before .before .before .before .before .before .before .before .before .before .before .before .before .before .before .args .list .now in
+    let under = c .before .before .before .before .before .before .before .before .before .loop-test .taken in
+    let s = short list (at .loop .at) _ (c .before .before .before .before .before .before .before .before .before .before .before .before .before .before .shared-slice-known .given) (c .before .before .before .before .before .before .before .before .pair-at .ensures) in
+    let t = short list (at .loop .at + 4) _ (c .before .before .before .before .before .before .before .before .before .before .before .before .before .before .shared-slice-known .given) (c .before .before .before .before .before .before .before .pair-at2 .ensures) in
+    let read = reads list (at .loop .at) _ _ (c .before .before .before .before .before .before .before .before .pair-at .ensures) (c .before .before .before .before .before .before .before .pair-at2 .ensures) in (
       omega (arith, under),
       at .loop .inv .1,
       omega arith,
       omega arith,
-      more _ _ _ (at .loop .i) _ (at .loop .at) _ (at .loop .inv .4) _ _ read under (c .before .before .before .before .before .before .if1 .left) (c .before .before .before .if2 .left) _ _ (c .before .match-of .ensures) (c .earlier .ensures),
+      more _ _ _ (at .loop .i) _ (at .loop .at) _ (at .loop .inv .4) _ _ read under (c .before .before .before .before .before .if1 .left) (c .before .before .if2 .left) _ (c .first-of .ensures),
     )
 
 refused-list-requires-3 : tie.Need-refused-list-requires-3 Inv-loop μ-loop
@@ -153,8 +150,7 @@ look-up-spec =
     refused-list-requires-2
     returns-2
     add-offset-3
-    match-of-requires
-    earlier-requires
+    first-of-requires
     add-at
     add-i
     loop-less
