@@ -1,25 +1,27 @@
 -- Why what specs/Claim.antt says holds.
-use Prim.Native.Nat.{ℕ, suc, _+_, _*_, _≤_, _<_}
+use Prim.Native.Nat.{ℕ, _+_, _*_, _≤_, _<_}
 use mathlib.Core.Path.{_≡_, refl, sym, ap, _∙_}
 use mathlib.Core.Bool.{Bool, true, false, cond}
-use mathlib.Core.List.{List, []}
+use mathlib.Core.List.{List}
 use native.Mathlib.Omega.{arith}
 use borrow.Author.Tests.{ltb-true, eqb-true, eqb-false}
 use lib.Dec.{eqb, ltb}
 use lib.ListN.{length, drop}
 use lib.Seq.{drop-drop}
-use Rattle.refusal.specs.Refusal.{accepted, inTurn, refusedIf, badCaption}
+use Rattle.refusal.specs.Refusal.{accepted}
 use Rattle.words.specs.declared.Pair.{Pair}
-use Rattle.words.specs.Pairs.{pairSize, offsetIn, lengthIn, pairIn, partOf}
+use Rattle.words.specs.Pairs.{pairSize, pairIn, partOf, pairsInTurn}
 use Rattle.sheet_rules.specs.Rules.{headerSize, labelFits, labelsAt}
-use Rattle.sheet_format.specs.Check.{countIn, checkNumber}
+use Rattle.label.specs.Label.{sameText}
+use Rattle.words.specs.Words.{word}
+use Rattle.sheet_format.specs.Check.{countIn, headerNumber, recordNumber, recordsNumber, checkNumber}
 use Rattle.sheet_format.proofs.Accepted.{passed-good, in-turn, accepted-sheet}
 use Rattle.caption.specs.declared.finder.Source.the-variants.{Sheet, List as Venue}
 use Rattle.caption.specs.declared.finder.Caption.{Caption}
 use Rattle.caption.specs.declared.finder.Match.{Match}
-use Rattle.caption.specs.Captions.{codesIn, pairsAt, textAt, codeSize, listNumber, firstMatch, labelPair, labelIn, captionNumber, refusedCaption, shownFrom, shownBy, captionOf, named, bytesOf}
+use Rattle.caption.specs.Captions.{codesIn, pairsAt, textAt, codeSize, listNumber, firstMatch, labelPair, labelIn, captionNumber, shownFrom, shownBy, captionOf, named}
+use Rattle.caption.specs.Cases.{Worked}
 use Rattle.caption.specs.Claim.{codePairs, codeAt, First, Holds, Claim}
-use Rattle.caption.proofs.Turns.{not-both}
 use Rattle.caption.proofs.Numbers.{accepted-by, refused-by}
 use Rattle.caption.proofs.Inside.{inside, match-inside}
 use Rattle.caption.proofs.Labels.{label-of}
@@ -93,5 +95,23 @@ module _ (list sheet : List ℕ) (entry : ℕ) where
         refused = λ d. (sym (refused-by list sheet entry _ refl d), rw (← refused-by list sheet entry _ refl d));
       }
 
+worked : Worked
+unfolding captionOf captionNumber checkNumber headerNumber recordsNumber recordNumber pairsInTurn listNumber firstMatch word sameText
+worked =
+    record {
+      first = refl;
+      label = refl;
+      longerCode = refl;
+      emptyCode = refl;
+      noCodes = refl;
+      threeBytes = refl;
+      oneByte = refl;
+      nothing = refl;
+      end = refl;
+      entry = refl;
+      sheetFirst = refl;
+      noSheet = refl;
+    }
+
 pub claim : Claim
-claim = λ list sheet entry. holds list sheet entry
+claim = record { holds = holds; worked = worked }

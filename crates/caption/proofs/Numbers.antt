@@ -1,10 +1,10 @@
 -- The number of a caption, by each check, and what the caption then is.
 use Prim.Native.Nat.{ℕ, _<_, _≤_}
 use mathlib.Core.Path.{_≡_, refl, sym, ap, _∙_}
-use mathlib.Core.Bool.{Bool, true, false, cond}
+use mathlib.Core.Bool.{Bool, true, false}
 use mathlib.Core.List.{List}
 use native.Mathlib.Omega.{arith}
-use borrow.Author.Tests.{eq-eqb, ne-eqb, eqb-true, eqb-false, lt-ltb, le-ltb}
+use borrow.Author.Tests.{ne-eqb, eqb-false, lt-ltb, le-ltb}
 use lib.Dec.{eqb}
 use Rattle.refusal.specs.Refusal.{accepted, badCaption, inTurn}
 use Rattle.words.specs.declared.Pair.{Pair}

@@ -29,7 +29,7 @@ either Venue list sheet n m h a b = omega arith
 
 module _ (list sheet : List ℕ) (entry : ℕ) (found : Caption) (is : found ≡ captionOf list sheet entry) where
   inside : found .at + found .len ≤ length (named (found .source) list sheet)
-  inside = rw is (claim list sheet entry .inside)
+  inside = rw is (claim .holds list sheet entry .inside)
 
   pub end-fits : (m : ℕ) → length list < m → length sheet < m → found .at + found .len < m
   end-fits m a b = either (found .source) list sheet _ m inside a b

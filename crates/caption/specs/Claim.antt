@@ -1,5 +1,5 @@
 -- What holds of every caption.
-use Prim.Native.Nat.{ℕ, _+_, _*_, _<_, _≤_}
+use Prim.Native.Nat.{ℕ, _+_, _<_, _≤_}
 use mathlib.Core.Path.{_≡_}
 use mathlib.Core.List.{List, []}
 use lib.ListN.{length, drop, getD}
@@ -8,7 +8,8 @@ use Rattle.label.specs.Label.{text}
 use Rattle.words.specs.Pairs.{pairSize, pairIn, partOf}
 use Rattle.sheet_format.specs.Descriptions.{blankItem, sheetItems}
 use Rattle.caption.specs.declared.finder.Source.the-variants.{Sheet, List as Venue}
-use Rattle.caption.specs.Captions.{codesIn, codeSize, textAt, pairsAt, labelPair, labelIn, captionNumber, refusedCaption, shownFrom, captionOf, named, bytesOf}
+use Rattle.caption.specs.Cases.{Worked}
+use Rattle.caption.specs.Captions.{codesIn, textAt, labelPair, labelIn, captionNumber, refusedCaption, shownFrom, captionOf, named, bytesOf}
 
 -- the pairs of code k, and the code
 abbrev pub codePairs : List ℕ → ℕ → List ℕ
@@ -41,5 +42,7 @@ pub record Holds (list sheet : List ℕ) (entry : ℕ) : Type 0 where
   pub refused : (captionNumber list sheet entry ≡ accepted → ⊥)
       → (captionOf list sheet entry ≡ refusedCaption (captionNumber list sheet entry)) × (bytesOf (captionOf list sheet entry) list sheet ≡ [])
 
-abbrev pub Claim : Type 0
-Claim = (list sheet : List ℕ) (entry : ℕ) → Holds list sheet entry
+-- all of it, with the cases worked out by hand: `claimed` carries it
+pub record Claim : Type 0 where
+  pub holds : (list sheet : List ℕ) (entry : ℕ) → Holds list sheet entry
+  pub worked : Worked

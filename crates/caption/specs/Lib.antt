@@ -1,2 +1,3 @@
 pub mod Captions
+pub mod Cases
 pub mod Claim

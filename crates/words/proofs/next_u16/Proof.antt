@@ -1,10 +1,8 @@
 -- Two bytes further on, or past the end.
-use mathlib.Core.Path.{sym, ap, _∙_}
-use mathlib.Core.List.{List}
-use Prim.Native.Nat.{ℕ, _+_}
+use mathlib.Core.Path.{sym}
+use Prim.Native.Nat.{_+_}
 use native.Mathlib.Omega.{arith}
 use lib.Seq.{drop-drop}
-use Rattle.words.specs.Words.{word}
 use Rattle.words.proofs.Bytes.{word-none}
 use borrow.Author.Needs.{needs}
 use Rattle.words.proofs.next_u16.Statement.{statement}

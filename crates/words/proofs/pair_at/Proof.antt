@@ -1,5 +1,4 @@
 -- The two words of the pair, whether they are there or not.
-use mathlib.Core.Path.{sym, _∙_}
 use Prim.Native.Nat.{_+_}
 use native.Mathlib.Omega.{arith}
 use lib.Seq.{drop-drop}

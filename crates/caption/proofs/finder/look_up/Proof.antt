@@ -1,6 +1,6 @@
 -- The pairs from code i on are still in turn or not, and the first match is the one so far or the first of those.
 use Prim.Native.Nat.{ℕ, _+_, _*_, _-_, _≤_, _<_}
-use mathlib.Core.Path.{_≡_, refl, ap, _∙_}
+use mathlib.Core.Path.{_≡_, refl, _∙_}
 use mathlib.Core.List.{List}
 use native.Mathlib.Omega.{arith}
 use borrow.Author.Needs.{needs}
@@ -10,7 +10,7 @@ use mir.Val.{Fits}
 use Rattle.words.specs.declared.Pair.{Pair}
 use Rattle.words.specs.Pairs.{pairIn}
 use Rattle.words.proofs.Bytes.{Bytes, bytes-drop, word-small}
-use Rattle.caption.specs.Captions.{codesIn, textAt}
+use Rattle.caption.specs.Captions.{textAt}
 use Rattle.caption.proofs.Turns.{reads, Passed, begins, bad-code, bad-words, more, bad-end, whole}
 use Rattle.caption.proofs.finder.look_up.Statement.{statement}
 use Rattle.caption.proofs.finder.look_up.Tie as tie

@@ -1,5 +1,5 @@
 -- The code, as a part of the list, is compared.
-use mathlib.Core.Path.{_≡_, sym, ap, _∙_}
+use mathlib.Core.Path.{ap, _∙_}
 use mathlib.Core.List.{List}
 use Prim.Native.Nat.{ℕ}
 use Rattle.label.specs.Label.{sameText}
