@@ -11,11 +11,13 @@ use lib.Seq.{drop-drop}
 use Rattle.refusal.specs.Refusal.{accepted}
 use Rattle.words.specs.declared.Pair.{Pair}
 use Rattle.words.specs.Pairs.{pairSize, pairIn, partOf, pairsInTurn}
+use Rattle.words.proofs.InTurn.{inside}
 use Rattle.sheet_rules.specs.Rules.{headerSize, labelFits, labelsAt}
 use Rattle.label.specs.Label.{sameText}
 use Rattle.words.specs.Words.{word}
 use Rattle.sheet_format.specs.Check.{countIn, headerNumber, recordNumber, recordsNumber, checkNumber}
-use Rattle.sheet_format.proofs.Accepted.{passed-good, in-turn, accepted-sheet}
+use Rattle.refusal.proofs.Checks.{passed-good, in-turn}
+use Rattle.sheet_format.proofs.Accepted.{accepted-sheet}
 use Rattle.caption.specs.declared.finder.Source.the-variants.{Sheet, List as Venue}
 use Rattle.caption.specs.declared.finder.Caption.{Caption}
 use Rattle.caption.specs.declared.finder.Match.{Match}
@@ -23,7 +25,7 @@ use Rattle.caption.specs.Captions.{codesIn, pairsAt, textAt, codeSize, l
 use Rattle.caption.specs.Cases.{Worked}
 use Rattle.caption.specs.Claim.{codePairs, codeAt, First, Holds, Claim}
 use Rattle.caption.proofs.Numbers.{accepted-by, refused-by}
-use Rattle.caption.proofs.Inside.{inside, match-inside}
+use Rattle.caption.proofs.Inside.{match-inside}
 use Rattle.caption.proofs.Labels.{label-of}
 use Rattle.caption.proofs.First.{pairsOf, finds, finds-none}
 

@@ -11,12 +11,12 @@ use Rattle.refusal.specs.Refusal.{accepted}
 use Rattle.label.specs.Label.{maxLabel, text}
 use Rattle.label.proofs.Text.{text-whole}
 use Rattle.words.specs.Pairs.{pairSize, offsetIn, lengthIn, partOf}
+use Rattle.words.proofs.InTurn.{next, fits-at}
 use Rattle.sheet_rules.specs.Rules.{headerSize, recordSize, labelFits, labelsAt}
 use Rattle.sheet_format.specs.Check.{recordsAt, countIn, checkNumber}
 use Rattle.sheet_format.specs.Descriptions.{blankItem, itemsFrom, sheetItems}
 use Rattle.sheet_format.proofs.Accepted.{accepted-sheet}
 use Rattle.caption.specs.Captions.{labelIn}
-use Rattle.caption.proofs.Inside.{next, fits-at}
 
 -- the label of item i of k is the text of pair i
 label-at : (s : List ℕ) (k : ℕ) (pairs records : List ℕ) (i : ℕ) → i < k → lengthIn (drop (pairSize * i) pairs) ≤ maxLabel

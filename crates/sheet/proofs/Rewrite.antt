@@ -4,7 +4,7 @@ use mathlib.Core.Path.{_≡_, refl, sym, ap, _∙_}
 use mathlib.Core.Bool.{true, _&&_}
 use mathlib.Core.List.{List, [], _∷_, _++_, append-assoc}
 use native.Mathlib.Omega.{arith}
-use borrow.Author.Tests.{eqb-true, le-leb, le-ltb}
+use borrow.Author.Tests.{eqb-true, leb-true, le-leb, le-ltb}
 use lib.Dec.{eqb}
 use lib.ListN.{length, take, drop, replicate, length-take, length-drop, take-append-drop}
 use lib.Seq.{take-add, take-at, drop-drop, drop-length}
@@ -14,12 +14,14 @@ use Rattle.label.specs.Label.{maxLabel, text, labelOf}
 use Rattle.label.proofs.Text.{text-whole}
 use Rattle.words.specs.Words.{byteAt, word, bytesOf}
 use Rattle.words.specs.Pairs.{pairSize, offsetIn, lengthIn, partOf, pairsInTurn}
-use Rattle.sheet_rules.specs.Rules.{headerSize, recordSize, labelsAt, placementGood, zerosGood}
-use Rattle.sheet_format.specs.Check.{recordsAt, countIn, pairGood, pairsNumber, kindIn, targetIn, secondsIn, recordNumber, recordsNumber}
+use Rattle.sheet_rules.specs.Rules.{headerSize, recordSize, labelFits, labelsAt, placementGood, zerosGood}
+use Rattle.sheet_format.specs.Check.{recordsAt, countIn, pairsNumber, kindIn, targetIn, secondsIn, recordNumber, recordsNumber}
 use Rattle.sheet_format.specs.Descriptions.{blankItem, itemsIn, loopOf, itemOf, itemsFrom, sheetItems, descriptionIn}
 use Rattle.sheet_format.specs.Write.{headerBytes, textLength, pairOf, pairsOf, recordOf, recordsOf, textsOf, sheetOf, labelsGood, targetGood, targetsGood, describeNumber}
 use Rattle.words.proofs.Bytes.{Bytes, bytes-drop, bytes-word}
-use Rattle.sheet_format.proofs.Accepted.{passed-good, in-turn, Accepted, pair-good}
+use Rattle.refusal.proofs.Checks.{passed-good, in-turn}
+use Rattle.words.proofs.InTurn.{ends, front}
+use Rattle.sheet_format.proofs.Accepted.{Accepted}
 use Rattle.steps.proofs.Tests.{and-true}
 use Rattle.sheet_format.proofs.Five.{loop-back, placement-back}
 
@@ -59,23 +61,16 @@ module _ (s : List ℕ) where
     pub texts : text (itemOf s pairs records .label) ≡ take (lengthIn pairs) (drop place s)
     pub size : textLength (itemOf s pairs records) ≡ lengthIn pairs
 
-  -- labels end in the sheet
-  ends : (place k : ℕ) (pairs : List ℕ) → pairsNumber (length s) place k pairs ≡ 0 → place ≤ length s
-  unfolding pairsInTurn
-  ends place zero pairs e = omega (arith, eqb-true place (length s) (passed-good _ 6 _ e .0))
-  ends place (suc k) pairs e = omega (arith, ends (place + lengthIn pairs) k (drop pairSize pairs) (passed-good (pairGood place pairs) 10 _ e .1))
-
   placed : (place k : ℕ) (pairs records : List ℕ) → pairsNumber (length s) place (suc k) pairs ≡ 0 → Placed place k pairs records
-  unfolding pairsInTurn
   placed place k pairs records e =
-      let p = passed-good (pairGood place pairs) 10 (pairsNumber (length s) (place + lengthIn pairs) k (drop pairSize pairs)) e in
-      let g = pair-good place pairs (p .0) in
-      let h = ends (place + lengthIn pairs) k (drop pairSize pairs) (p .1) in
+      let f = front labelFits 10 6 (length s) place k pairs e in
+      let h = ends labelFits 10 6 (length s) (place + lengthIn pairs) k (drop pairSize pairs) (f .rest) in
+      let short = leb-true (lengthIn pairs) maxLabel (f .short) in
       let l = length-take (lengthIn pairs) (drop place s) in
       let m = length-drop place s in
       let n : length (take (lengthIn pairs) (drop place s)) ≡ lengthIn pairs = omega arith in
-      let t : text (labelOf (partOf s pairs)) ≡ take (lengthIn pairs) (drop place s) = rw (g .0) (text-whole (take (lengthIn pairs) (drop place s)) (omega arith)) in
-      record { offset = g .0; next = p .1; texts = t; size = ap length t ∙ n }
+      let t : text (labelOf (partOf s pairs)) ≡ take (lengthIn pairs) (drop place s) = rw (f .starts) (text-whole (take (lengthIn pairs) (drop place s)) (omega arith)) in
+      record { offset = f .starts; next = f .rest; texts = t; size = ap length t ∙ n }
 
   -- ---- each part, written as it was read
 

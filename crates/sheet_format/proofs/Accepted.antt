@@ -1,37 +1,18 @@
 -- What holds of a sheet that the checks accept.
-use Prim.Native.Nat.{ℕ, suc, _≤_}
-use mathlib.Core.Path.{_≡_, refl}
-use mathlib.Core.Bool.{Bool, true, false, cond, not}
+use Prim.Native.Nat.{ℕ, _≤_}
+use mathlib.Core.Path.{_≡_}
+use mathlib.Core.Bool.{true}
 use mathlib.Core.List.{List}
-use native.Mathlib.Omega.{arith}
-use borrow.Author.Tests.{leb-true, ltb-false, eqb-true, eqb-false}
-use lib.Dec.{eqb}
+use borrow.Author.Tests.{leb-true, ltb-false, eqb-true}
 use lib.ListN.{length, drop}
 use Rattle.steps.specs.Times.{maxEntries}
 use Rattle.label.specs.Label.{maxLabel}
 use Rattle.words.specs.Words.{byteAt, word}
-use Rattle.refusal.specs.Refusal.{refusedIf, inTurn}
+use Rattle.refusal.proofs.Checks.{passed, passed-good, in-turn}
 use Rattle.sheet_rules.specs.Rules.{headerSize, labelsAt, loopGood}
 use Rattle.words.specs.Pairs.{offsetIn, lengthIn}
 use Rattle.sheet_format.specs.Check.{recordsAt, countIn, headerNumber, pairGood, pairsNumber, recordsNumber, checkNumber}
 use Rattle.steps.proofs.Tests.{and-true}
-
--- a check that does not refuse was passed, and so were those after it
-pub passed : (refused : Bool) (number next : ℕ) → refusedIf refused (suc number) next ≡ 0 → (refused ≡ false) × (next ≡ 0)
-passed true number next e = absurd (omega arith)
-passed false number next e = (refl, e)
-
--- the same of a check that something is good
-pub passed-good : (good : Bool) (number next : ℕ) → refusedIf (not good) (suc number) next ≡ 0 → (good ≡ true) × (next ≡ 0)
-passed-good true number next e = (refl, e)
-passed-good false number next e = absurd (omega arith)
-
-pub in-turn : (first second : ℕ) → inTurn first second ≡ 0 → (first ≡ 0) × (second ≡ 0)
-in-turn first second e = go (eqb first 0) refl e
-  where
-    go : (b : Bool) → eqb first 0 ≡ b → cond b second first ≡ 0 → (first ≡ 0) × (second ≡ 0)
-    go true t q = (eqb-true first 0 t, q)
-    go false t q = absurd (eqb-false first 0 t q)
 
 pub record Header (s : List ℕ) : Type 0 where
   pub long : headerSize ≤ length s

@@ -16,7 +16,7 @@ use Rattle.sheet_format.specs.Descriptions.{itemsIn}
 use Rattle.sheet_format.specs.Write.{headerBytes, textsOf, sheetOf, labelsGood, targetsGood, describeNumber, writeNumber, writtenBytes}
 use Rattle.words.proofs.Bytes.{length-bytes}
 use Rattle.sheet_format.proofs.Turns.{length-pairs, length-records}
-use Rattle.sheet_format.proofs.Accepted.{passed, passed-good}
+use Rattle.refusal.proofs.Checks.{passed, passed-good}
 
 pub length-header : (n : ℕ) (looping : Loop) (scale : ℕ) → length (headerBytes n looping scale) ≡ headerSize
 unfolding headerBytes

@@ -1,3 +1,4 @@
--- Laws of words and parts.
+-- Laws of words, parts and pairs in turn.
 pub mod Bytes
 pub mod Parts
+pub mod InTurn

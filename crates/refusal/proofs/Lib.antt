@@ -1,0 +1,2 @@
+-- Laws of checks in turn.
+pub mod Checks
