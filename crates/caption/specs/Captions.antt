@@ -110,6 +110,11 @@ captionOf list sheet entry =
 
 -- ---- the part itself: "the answer says of which and where"
 
+-- the codes of `S` and `L`
+abbrev pub letterOf : Source → ℕ
+letterOf Sheet = 83
+letterOf Venue = 76
+
 abbrev pub isList : Source → Bool
 isList Sheet = false
 isList Venue = true

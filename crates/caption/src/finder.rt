@@ -12,7 +12,7 @@ use words::u16_at;
 ghost use mathlib.Core.Path.{_≡_};
 ghost use Rattle.label.specs.Label.{sameText};
 ghost use Rattle.words.specs.Pairs.{partBy};
-ghost use Rattle.caption.specs.Captions.{noMatch, matched, earlier, lookedUp, refusedLookUp, listNumber, refusedCaption, captionOf, isList};
+ghost use Rattle.caption.specs.Captions.{noMatch, matched, earlier, lookedUp, refusedLookUp, listNumber, refusedCaption, captionOf, letterOf, isList};
 
 // Bytes of the number of codes.
 const COUNT_SIZE: usize = 2;
@@ -173,6 +173,16 @@ pub fn find_caption(list: &[u8], sheet: &[u8], entry: usize) -> Caption
         source: Source::Sheet,
         at: own.offset,
         len: own.len,
+    }
+}
+
+// The letter of a source: `S` for the sheet, `L` for the list.
+pub fn letter(source: Source) -> u8
+    ensures { λ r. ⌜ r ≡ letterOf source ⌝ }
+{
+    match source {
+        Source::Sheet => b'S',
+        Source::List => b'L',
     }
 }
 

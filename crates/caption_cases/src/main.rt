@@ -5,7 +5,7 @@
 // longer, or that the input does not have whole, is `cut`, and the last.
 use caption::caption;
 use caption::find_caption;
-use caption::finder::Source;
+use caption::finder::letter;
 use case_io::fields;
 use case_io::input;
 use case_io::text::BUFFER;
@@ -85,11 +85,4 @@ fn line<'a>(
     let s = s.byte(buffer, b' ');
     let s = fields::hex(s, buffer, caption(list, sheet, entry));
     s.byte(buffer, b'\n')
-}
-
-fn letter(source: Source) -> u8 {
-    match source {
-        Source::Sheet => b'S',
-        Source::List => b'L',
-    }
 }

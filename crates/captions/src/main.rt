@@ -4,7 +4,7 @@ use caption::caption;
 use caption::check_list;
 use caption::find_caption;
 use caption::finder::Caption;
-use caption::finder::Source;
+use caption::finder::letter;
 use digits::put_decimal;
 use escape::escape;
 use libc::STDERR_FILENO;
@@ -115,13 +115,6 @@ fn put_fields(head: &mut [u8; HEAD], entry: usize, found: Caption) -> usize {
     let at = put_number(head, at, found.at);
     let at = put_byte(head, at, b' ');
     put_number(head, at, found.len)
-}
-
-fn letter(source: Source) -> u8 {
-    match source {
-        Source::Sheet => b'S',
-        Source::List => b'L',
-    }
 }
 
 // Bytes as text that a person can read, a piece at a time.
