@@ -12,8 +12,8 @@ use libc::STDIN_FILENO;
 use libc::STDOUT_FILENO;
 use refusal::ACCEPTED;
 use steps::least;
+use streams::front;
 use streams::read_to;
-use streams::write_front;
 
 // The descriptor of the venue list: one that nothing else has open.
 const LIST_FILENO: i32 = 9;
@@ -126,12 +126,17 @@ fn write_text(text: &[u8], room: &mut [u8]) -> bool {
         if used == 0 {
             return false;
         }
-        if !write_front(room, made.len) {
+        if !write(room, made.len) {
             return false;
         }
         done += used;
     }
     true
+}
+
+// Writes the first `len` bytes, and says whether it could.
+fn write(bytes: &[u8], len: usize) -> bool {
+    io::write_all(STDOUT_FILENO, front(bytes, len))
 }
 
 // ---- the first line
@@ -174,7 +179,7 @@ fn put_number(head: &mut [u8; HEAD], at: usize, n: usize) -> usize {
 fn write_with(head: &mut [u8; HEAD], at: usize, last: u8) -> bool {
     let end = put_byte(head, at, last);
     let bytes: &[u8] = head;
-    write_front(bytes, end)
+    write(bytes, end)
 }
 
 // ---- what standard error gets: the launcher goes by how a line begins

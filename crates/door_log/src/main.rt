@@ -6,10 +6,11 @@ use call_log::Log;
 use call_log::MAX_SHEET;
 use libc::STDERR_FILENO;
 use libc::STDIN_FILENO;
+use libc::STDOUT_FILENO;
 use steps::least;
 use streams::Got;
+use streams::front;
 use streams::read_to;
-use streams::write_front;
 ghost use Prim.Native.Nat.{_+_, _≤_};
 ghost use mathlib.Core.Path.{_≡_};
 ghost use mathlib.Core.List.{_++_};
@@ -153,7 +154,7 @@ fn write_line(line: &[u8; LINE], len: usize) -> bool {
 // Writes the first `len` bytes, and says whether it could. After the first failure nothing more is written: what stands there is the
 // log's beginning.
 fn write(bytes: &[u8], len: usize) -> bool {
-    let written = write_front(bytes, len);
+    let written = io::write_all(STDOUT_FILENO, front(bytes, len));
     if !written {
         not_written();
     }

@@ -1,8 +1,8 @@
 // Reads and writes of the programs that people run.
-use libc::STDOUT_FILENO;
 use steps::least;
+ghost use mathlib.Core.Path.{_≡_};
 ghost use Prim.Native.Nat.{_≤_};
-ghost use lib.ListN.{length};
+ghost use lib.ListN.{length, take};
 
 // How many bytes are there, and whether the last read failed.
 pub struct Got {
@@ -33,8 +33,10 @@ pub fn read_to(fd: i32, bytes: &mut [u8], from: usize, to: usize) -> Got
     }
 }
 
-// Writes the first `len` bytes to standard output, and says whether it could.
-pub fn write_front(bytes: &[u8], len: usize) -> bool {
+// The first `len` bytes, or all where there are fewer.
+pub fn front(bytes: &[u8], len: usize) -> &[u8]
+    ensures { λ r. ⌜ now r ≡ take len (now (bytes .entry)) ⌝ }
+{
     let n = least(len, bytes.len());
-    io::write_all(STDOUT_FILENO, &bytes[..n])
+    &bytes[..n]
 }

@@ -34,8 +34,8 @@ sub-least c = omega arith
 least-requires : tie.Need-least-requires Inv-loop μ-loop
 least-requires c κs = search needs
 
-write-front-requires : tie.Need-write-front-requires Inv-loop μ-loop
-write-front-requires c κs = search needs
+write-requires : tie.Need-write-requires Inv-loop μ-loop
+write-requires c κs = search needs
 
 same-length : tie.Need-same-length Inv-loop μ-loop
 same-length c = search needs
@@ -79,7 +79,7 @@ write-text-spec =
     least-requires
     same-length
     returns
-    write-front-requires
+    write-requires
     same-length-2
     returns-2
     add-done
