@@ -21,13 +21,13 @@ use Rattle.sheet_format.proofs.Accepted.{accepted-sheet}
 use Rattle.caption.specs.declared.finder.Source.the-variants.{Sheet, List as Venue}
 use Rattle.caption.specs.declared.finder.Caption.{Caption}
 use Rattle.caption.specs.declared.finder.Match.{Match}
-use Rattle.caption.specs.Captions.{codesIn, pairsAt, textAt, codeSize, listNumber, firstMatch, labelPair, labelIn, captionNumber, shownFrom, shownBy, captionOf, named}
+use Rattle.caption.specs.Captions.{codesIn, pairsIn, textAt, codeSize, listNumber, firstMatch, labelPair, labelIn, captionNumber, shownFrom, shownBy, captionOf, named}
 use Rattle.caption.specs.Cases.{Worked}
 use Rattle.caption.specs.Claim.{codePairs, codeAt, First, Holds, Claim}
 use Rattle.caption.proofs.Numbers.{accepted-by, refused-by}
 use Rattle.caption.proofs.Inside.{match-inside}
 use Rattle.caption.proofs.Labels.{label-of}
-use Rattle.caption.proofs.First.{pairsOf, finds, finds-none}
+use Rattle.caption.proofs.First.{codePairsFrom, finds, finds-none}
 
 module _ (list sheet : List ℕ) (entry : ℕ) where
   -- what an accepted number says
@@ -44,24 +44,24 @@ module _ (list sheet : List ℕ) (entry : ℕ) where
       record { sheet-good = a .0; list-good = b .0; below = ltb-true _ _ (passed-good (ltb entry (countIn sheet)) 15 _ (b .1) .0) }
 
   abbrev match : Match
-  match = firstMatch list (labelIn sheet entry) (codesIn list) (pairsAt list)
+  match = firstMatch list (labelIn sheet entry) (codesIn list) (pairsIn list)
 
   abbrev own : Pair
   own = pairIn (labelPair sheet entry)
 
   -- the pairs of a code, counted from the start of the list or of the pairs
-  pairs-of : (k : ℕ) → pairsOf list (labelIn sheet entry) (pairsAt list) k ≡ codePairs list k
+  pairs-of : (k : ℕ) → codePairsFrom list (labelIn sheet entry) (pairsIn list) k ≡ codePairs list k
   pairs-of k = drop-drop (codeSize * k) 2 list
 
   wins : captionNumber list sheet entry ≡ accepted → (k : ℕ) → First list (labelIn sheet entry) k → captionOf list sheet entry ≡ shownFrom Venue (pairIn (drop pairSize (codePairs list k)))
   wins e k f =
-      let same : partOf list (pairsOf list (labelIn sheet entry) (pairsAt list) k) ≡ labelIn sheet entry = ap (λ (p : List ℕ). partOf list p) (pairs-of k) ∙ f .equal in
-      let found = finds list (labelIn sheet entry) (codesIn list) (pairsAt list) k (f .below) same (λ j h q. f .earliest j h (ap (λ (p : List ℕ). partOf list p) (sym (pairs-of j)) ∙ q)) in
+      let same : partOf list (codePairsFrom list (labelIn sheet entry) (pairsIn list) k) ≡ labelIn sheet entry = ap (λ (p : List ℕ). partOf list p) (pairs-of k) ∙ f .equal in
+      let found = finds list (labelIn sheet entry) (codesIn list) (pairsIn list) k (f .below) same (λ j h q. f .earliest j h (ap (λ (p : List ℕ). partOf list p) (sym (pairs-of j)) ∙ q)) in
       sym (accepted-by list sheet entry e) ∙ ap (λ (m : Match). shownBy m own) found ∙ ap (λ (p : List ℕ). shownFrom Venue (pairIn (drop pairSize p))) (pairs-of k)
 
   itself : captionNumber list sheet entry ≡ accepted → ((k : ℕ) → k < codesIn list → codeAt list k ≡ labelIn sheet entry → ⊥) → captionOf list sheet entry ≡ shownFrom Sheet own
   itself e d =
-      let found = finds-none list (labelIn sheet entry) (codesIn list) (pairsAt list) (λ k h q. d k h (ap (λ (p : List ℕ). partOf list p) (sym (pairs-of k)) ∙ q)) in
+      let found = finds-none list (labelIn sheet entry) (codesIn list) (pairsIn list) (λ k h q. d k h (ap (λ (p : List ℕ). partOf list p) (sym (pairs-of k)) ∙ q)) in
       sym (accepted-by list sheet entry e) ∙ ap (λ (m : Match). shownBy m own) found
 
   -- a part that lies inside the slice that is named
@@ -75,7 +75,7 @@ module _ (list sheet : List ℕ) (entry : ℕ) where
 
   words-fit : Good → match .found ≡ true → match .words .offset + match .words .len ≤ length list
   unfolding listNumber
-  words-fit g f = match-inside list (labelIn sheet entry) (length list) (textAt (codesIn list)) (codesIn list) (pairsAt list) (g .list-good) f
+  words-fit g f = match-inside list (labelIn sheet entry) (length list) (textAt (codesIn list)) (codesIn list) (pairsIn list) (g .list-good) f
 
   shown-fits : (b : Bool) → match .found ≡ b → Good → Fits (cond b (shownFrom Venue (match .words)) (shownFrom Sheet own))
   shown-fits true e g = words-fit g e

@@ -14,10 +14,10 @@ use Rattle.caption.specs.Captions.{codeSize, noMatch, firstMatch}
 
 module _ (list label : List ℕ) where
   -- the pairs of code i, from these pairs on
-  abbrev pub pairsOf : List ℕ → ℕ → List ℕ
-  pairsOf pairs i = drop (codeSize * i) pairs
+  abbrev pub codePairsFrom : List ℕ → ℕ → List ℕ
+  codePairsFrom pairs i = drop (codeSize * i) pairs
 
-  next : (pairs : List ℕ) (i : ℕ) → pairsOf (drop codeSize pairs) i ≡ pairsOf pairs (suc i)
+  next : (pairs : List ℕ) (i : ℕ) → codePairsFrom (drop codeSize pairs) i ≡ codePairsFrom pairs (suc i)
   next pairs i =
       let n : codeSize + codeSize * i ≡ codeSize * suc i = omega arith in
       drop-drop (codeSize * i) codeSize pairs ∙ ap (λ (m : ℕ). drop m pairs) n
@@ -31,8 +31,8 @@ module _ (list label : List ℕ) where
       chosen false t = refl
 
   -- a code of k, with none equal before it, is found
-  pub finds : (k : ℕ) (pairs : List ℕ) (i : ℕ) → i < k → partOf list (pairsOf pairs i) ≡ label → ((j : ℕ) → j < i → partOf list (pairsOf pairs j) ≡ label → ⊥)
-      → firstMatch list label k pairs ≡ record { found = true; words = pairIn (drop pairSize (pairsOf pairs i)) }
+  pub finds : (k : ℕ) (pairs : List ℕ) (i : ℕ) → i < k → partOf list (codePairsFrom pairs i) ≡ label → ((j : ℕ) → j < i → partOf list (codePairsFrom pairs j) ≡ label → ⊥)
+      → firstMatch list label k pairs ≡ record { found = true; words = pairIn (drop pairSize (codePairsFrom pairs i)) }
   unfolding firstMatch
   finds zero pairs i h e d = absurd (not-suc-le-zero h)
   finds (suc k) pairs zero h e d = rw (eq-same (partOf list pairs) label e)
@@ -43,7 +43,7 @@ module _ (list label : List ℕ) where
       rw other (rest ∙ ap (λ (p : List ℕ). record { found = true; words = pairIn (drop pairSize p) }) n)
 
   -- no code of k is equal: nothing is found
-  pub finds-none : (k : ℕ) (pairs : List ℕ) → ((i : ℕ) → i < k → partOf list (pairsOf pairs i) ≡ label → ⊥) → firstMatch list label k pairs ≡ noMatch
+  pub finds-none : (k : ℕ) (pairs : List ℕ) → ((i : ℕ) → i < k → partOf list (codePairsFrom pairs i) ≡ label → ⊥) → firstMatch list label k pairs ≡ noMatch
   unfolding firstMatch
   finds-none zero pairs d = refl
   finds-none (suc k) pairs d =

@@ -12,7 +12,7 @@ use Rattle.words.specs.Pairs.{pairIn}
 use Rattle.sheet_format.specs.Check.{countIn, checkNumber}
 use Rattle.caption.specs.declared.finder.Match.{Match}
 use Rattle.caption.specs.declared.finder.LookUp.{LookUp}
-use Rattle.caption.specs.Captions.{lookedUp, codesIn, pairsAt, listNumber, firstMatch, labelPair, labelIn, captionNumber, refusedCaption, shownBy, captionOf}
+use Rattle.caption.specs.Captions.{lookedUp, codesIn, pairsIn, listNumber, firstMatch, labelPair, labelIn, captionNumber, refusedCaption, shownBy, captionOf}
 use Rattle.caption.proofs.Turns.{list-number, looked-number, looked-first}
 
 module _ (list sheet : List ℕ) (entry : ℕ) where
@@ -21,7 +21,7 @@ module _ (list sheet : List ℕ) (entry : ℕ) where
   unfolding captionOf
   refused-by number e d = rw (e, ne-eqb number accepted d)
 
-  pub accepted-by : captionNumber list sheet entry ≡ accepted → shownBy (firstMatch list (labelIn sheet entry) (codesIn list) (pairsAt list)) (pairIn (labelPair sheet entry)) ≡ captionOf list sheet entry
+  pub accepted-by : captionNumber list sheet entry ≡ accepted → shownBy (firstMatch list (labelIn sheet entry) (codesIn list) (pairsIn list)) (pairIn (labelPair sheet entry)) ≡ captionOf list sheet entry
   unfolding captionOf
   accepted-by e = rw e
 
@@ -69,5 +69,5 @@ module _ (list sheet : List ℕ) (entry : ℕ) where
       pub shown : shownBy (look .first) own ≡ captionOf list sheet entry
       shown =
           let fine = sym number ∙ good in
-          let first = ap (λ (l : LookUp). l .first) is ∙ looked-first list label fine ∙ ap (λ (l : List ℕ). firstMatch list l (codesIn list) (pairsAt list)) names in
-          ap (λ (m : Match). shownBy m own) first ∙ ap (λ (p : Pair). shownBy (firstMatch list (labelIn sheet entry) (codesIn list) (pairsAt list)) p) pair ∙ accepted-by (all-good ok fine below)
+          let first = ap (λ (l : LookUp). l .first) is ∙ looked-first list label fine ∙ ap (λ (l : List ℕ). firstMatch list l (codesIn list) (pairsIn list)) names in
+          ap (λ (m : Match). shownBy m own) first ∙ ap (λ (p : Pair). shownBy (firstMatch list (labelIn sheet entry) (codesIn list) (pairsIn list)) p) pair ∙ accepted-by (all-good ok fine below)

@@ -9,7 +9,7 @@ use denote.Ref.{RefT}
 use Rattle.caption.specs.declared.finder.Source.{Source}
 use Rattle.caption.specs.declared.finder.Source.the-variants.{Sheet, List as Venue}
 use Rattle.caption.specs.declared.finder.Caption.{Caption}
-use Rattle.caption.specs.Captions.{captionOf, isList, named, Shows}
+use Rattle.caption.specs.Captions.{captionOf, isList, named, IsPart}
 use Rattle.caption.proofs.Turns.{not-both}
 use Rattle.caption.proofs.Claim.{claim}
 
@@ -41,9 +41,9 @@ module _ (list sheet : List ℕ) (entry : ℕ) (found : Caption) (is : found ≡
   in-sheet e = rw (named-sheet list sheet (found .source) e) at inside
 
 -- a part of the slice that is named, from `at` to the end
-pub shows : (found caption : Caption) (list sheet slice part : RefT (List ℕ)) → found ≡ caption → named (found .source) list sheet ≡ slice → named (found .source) (list .now) (sheet .now) ≡ slice .now
-    → part .now ≡ take (found .at + found .len - found .at) (drop (found .at) (slice .now)) → part .ptr .0 ≡ slice .ptr .0 → part .ptr .1 ≡ found .at + slice .ptr .1 → Shows caption list sheet part
-shows found caption list sheet slice part is names lists bytes block place =
+pub is-part : (found caption : Caption) (list sheet slice part : RefT (List ℕ)) → found ≡ caption → named (found .source) list sheet ≡ slice → named (found .source) (list .now) (sheet .now) ≡ slice .now
+    → part .now ≡ take (found .at + found .len - found .at) (drop (found .at) (slice .now)) → part .ptr .0 ≡ slice .ptr .0 → part .ptr .1 ≡ found .at + slice .ptr .1 → IsPart caption list sheet part
+is-part found caption list sheet slice part is names lists bytes block place =
     let n : found .at + found .len - found .at ≡ found .len = omega arith in
     let p : found .at + slice .ptr .1 ≡ slice .ptr .1 + found .at = omega arith in
     rw (← is) (record {
@@ -52,10 +52,10 @@ shows found caption list sheet slice part is names lists bytes block place =
       place = place ∙ p ∙ ap (λ (r : RefT (List ℕ)). r .ptr .1 + found .at) (sym names);
     })
 
-pub shows-list : (found caption : Caption) (list sheet part : RefT (List ℕ)) → found ≡ caption → isList (found .source) ≡ true
-    → part .now ≡ take (found .at + found .len - found .at) (drop (found .at) (list .now)) → part .ptr .0 ≡ list .ptr .0 → part .ptr .1 ≡ found .at + list .ptr .1 → Shows caption list sheet part
-shows-list found caption list sheet part is e = shows found caption list sheet list part is (named-list list sheet (found .source) e) (named-list (list .now) (sheet .now) (found .source) e)
+pub part-of-list : (found caption : Caption) (list sheet part : RefT (List ℕ)) → found ≡ caption → isList (found .source) ≡ true
+    → part .now ≡ take (found .at + found .len - found .at) (drop (found .at) (list .now)) → part .ptr .0 ≡ list .ptr .0 → part .ptr .1 ≡ found .at + list .ptr .1 → IsPart caption list sheet part
+part-of-list found caption list sheet part is e = is-part found caption list sheet list part is (named-list list sheet (found .source) e) (named-list (list .now) (sheet .now) (found .source) e)
 
-pub shows-sheet : (found caption : Caption) (list sheet part : RefT (List ℕ)) → found ≡ caption → isList (found .source) ≡ false
-    → part .now ≡ take (found .at + found .len - found .at) (drop (found .at) (sheet .now)) → part .ptr .0 ≡ sheet .ptr .0 → part .ptr .1 ≡ found .at + sheet .ptr .1 → Shows caption list sheet part
-shows-sheet found caption list sheet part is e = shows found caption list sheet sheet part is (named-sheet list sheet (found .source) e) (named-sheet (list .now) (sheet .now) (found .source) e)
+pub part-of-sheet : (found caption : Caption) (list sheet part : RefT (List ℕ)) → found ≡ caption → isList (found .source) ≡ false
+    → part .now ≡ take (found .at + found .len - found .at) (drop (found .at) (sheet .now)) → part .ptr .0 ≡ sheet .ptr .0 → part .ptr .1 ≡ found .at + sheet .ptr .1 → IsPart caption list sheet part
+part-of-sheet found caption list sheet part is e = is-part found caption list sheet sheet part is (named-sheet list sheet (found .source) e) (named-sheet (list .now) (sheet .now) (found .source) e)

@@ -13,7 +13,7 @@ use Rattle.label.specs.Label.{sameText}
 use Rattle.words.specs.declared.Pair.{Pair}
 use Rattle.words.specs.Pairs.{pairSize, offsetIn, lengthIn, pairIn, partBy, partOf, pairsInTurn}
 use Rattle.caption.specs.declared.finder.Match.{Match}
-use Rattle.caption.specs.Captions.{codesIn, pairsAt, codeSize, textAt, anyLength, listNumber, noMatch, matched, matchIn, earlier, firstMatch, lookedUp, refusedLookUp}
+use Rattle.caption.specs.Captions.{codesIn, pairsIn, codeSize, textAt, anyLength, listNumber, noMatch, matched, matchIn, earlier, firstMatch, lookedUp, refusedLookUp}
 
 -- ---- the shape
 
@@ -139,7 +139,7 @@ module _ (list label : List ℕ) (n i at : ℕ) where
 pub record Passed (list label : List ℕ) (n i offset at : ℕ) (first : Match) : Type 0 where
   pub count : n ≡ codesIn list
   pub shape : listNumber list ≡ left list offset (2 * (n - i)) at
-  pub match : firstMatch list label n (pairsAt list) ≡ earlier first (firstMatch list label (n - i) (drop at list))
+  pub match : firstMatch list label n (pairsIn list) ≡ earlier first (firstMatch list label (n - i) (drop at list))
   pub clean : Clean first
 
 pub begins : (list label : List ℕ) (n : ℕ) (first : Match) → n ≡ codesIn list → first ≡ noMatch → Passed list label n 0 (textAt n) 2 first
@@ -183,7 +183,7 @@ module _ (list label : List ℕ) (n i offset at : ℕ) (first : Match) (passed :
   unfolding lookedUp
   whole h e =
       let good = passed .shape ∙ ends list n i offset at h e in
-      let found : firstMatch list label (codesIn list) (pairsAt list) ≡ first = ap (λ (k : ℕ). firstMatch list label k (pairsAt list)) (sym (passed .count)) ∙ passed .match ∙ ap (λ (x : Match). earlier first x) (first-end list label n i at h) ∙ earlier-none first (passed .clean) in
+      let found : firstMatch list label (codesIn list) (pairsIn list) ≡ first = ap (λ (k : ℕ). firstMatch list label k (pairsIn list)) (sym (passed .count)) ∙ passed .match ∙ ap (λ (x : Match). earlier first x) (first-end list label n i at h) ∙ earlier-none first (passed .clean) in
       rw (good, found)
 
 -- ---- the number of a list: it is refused by nothing but 16
@@ -207,10 +207,10 @@ pub looked-number : (list label : List ℕ) → lookedUp list label .refusal ≡
 unfolding lookedUp
 looked-number list label = chosen (eqb (listNumber list) accepted) refl
   where
-    chosen : (b : Bool) → eqb (listNumber list) accepted ≡ b → cond b (record { refusal = accepted; first = firstMatch list label (codesIn list) (pairsAt list) }) refusedLookUp .refusal ≡ listNumber list
+    chosen : (b : Bool) → eqb (listNumber list) accepted ≡ b → cond b (record { refusal = accepted; first = firstMatch list label (codesIn list) (pairsIn list) }) refusedLookUp .refusal ≡ listNumber list
     chosen true e = sym (eqb-true _ _ e)
     chosen false e = sym (list-number list (eqb-false _ _ e))
 
-pub looked-first : (list label : List ℕ) → listNumber list ≡ accepted → lookedUp list label .first ≡ firstMatch list label (codesIn list) (pairsAt list)
+pub looked-first : (list label : List ℕ) → listNumber list ≡ accepted → lookedUp list label .first ≡ firstMatch list label (codesIn list) (pairsIn list)
 unfolding lookedUp
 looked-first list label e = rw e

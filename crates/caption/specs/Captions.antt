@@ -25,8 +25,8 @@ abbrev pub codesIn : List ℕ → ℕ
 codesIn list = word 2 list
 
 -- the pairs of the first code, and the bytes of a code's two pairs
-abbrev pub pairsAt : List ℕ → List ℕ
-pairsAt list = drop 2 list
+abbrev pub pairsIn : List ℕ → List ℕ
+pairsIn list = drop 2 list
 
 abbrev pub codeSize : ℕ
 codeSize = 8
@@ -41,7 +41,7 @@ anyLength len = true
 
 -- "a list of another shape": a pair that is not in turn, or a last one that does not end the list. A list below 2 bytes has such an end.
 unfoldable pub listNumber : List ℕ → ℕ
-listNumber list = pairsInTurn anyLength badCaption badCaption (length list) (textAt (codesIn list)) (2 * codesIn list) (pairsAt list)
+listNumber list = pairsInTurn anyLength badCaption badCaption (length list) (textAt (codesIn list)) (2 * codesIn list) (pairsIn list)
 
 -- ---- "The first code equal to the label wins"
 
@@ -72,7 +72,7 @@ refusedLookUp = record { refusal = badCaption; first = noMatch }
 unfoldable pub lookedUp : List ℕ → List ℕ → LookUp
 lookedUp list label =
     cond (eqb (listNumber list) accepted)
-    (record { refusal = accepted; first = firstMatch list label (codesIn list) (pairsAt list) })
+    (record { refusal = accepted; first = firstMatch list label (codesIn list) (pairsIn list) })
     refusedLookUp
 
 -- ---- the caption
@@ -105,7 +105,7 @@ shownBy first own = cond (first .found) (shownFrom Venue (first .words)) (shownF
 unfoldable pub captionOf : List ℕ → List ℕ → ℕ → Caption
 captionOf list sheet entry =
     cond (eqb (captionNumber list sheet entry) accepted)
-    (shownBy (firstMatch list (labelIn sheet entry) (codesIn list) (pairsAt list)) (pairIn (labelPair sheet entry)))
+    (shownBy (firstMatch list (labelIn sheet entry) (codesIn list) (pairsIn list)) (pairIn (labelPair sheet entry)))
     (refusedCaption (captionNumber list sheet entry))
 
 -- ---- the part itself: "the answer says of which and where"
@@ -125,11 +125,11 @@ named Sheet list sheet = sheet
 named Venue list sheet = list
 
 -- the bytes of a caption
-abbrev pub bytesOf : Caption → List ℕ → List ℕ → List ℕ
-bytesOf c list sheet = take (c .len) (drop (c .at) (named (c .source) list sheet))
+abbrev pub shownBytes : Caption → List ℕ → List ℕ → List ℕ
+shownBytes c list sheet = take (c .len) (drop (c .at) (named (c .source) list sheet))
 
 -- a reference to a caption: its bytes, and its place, which is in the block of the slice that is named, `at` bytes from its start
-pub record Shows (c : Caption) (list sheet shown : RefT (List ℕ)) : Type 0 where
-  pub bytes : shown .now ≡ bytesOf c (list .now) (sheet .now)
+pub record IsPart (c : Caption) (list sheet shown : RefT (List ℕ)) : Type 0 where
+  pub bytes : shown .now ≡ shownBytes c (list .now) (sheet .now)
   pub block : shown .ptr .0 ≡ named (c .source) list sheet .ptr .0
   pub place : shown .ptr .1 ≡ named (c .source) list sheet .ptr .1 + c .at

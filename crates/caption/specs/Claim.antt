@@ -9,7 +9,7 @@ use Rattle.words.specs.Pairs.{pairSize, pairIn, partOf}
 use Rattle.sheet_format.specs.Descriptions.{blankItem, sheetItems}
 use Rattle.caption.specs.declared.finder.Source.the-variants.{Sheet, List as Venue}
 use Rattle.caption.specs.Cases.{Worked}
-use Rattle.caption.specs.Captions.{codesIn, textAt, labelPair, labelIn, captionNumber, refusedCaption, shownFrom, captionOf, named, bytesOf}
+use Rattle.caption.specs.Captions.{codesIn, textAt, labelPair, labelIn, captionNumber, refusedCaption, shownFrom, captionOf, named, shownBytes}
 
 -- the pairs of code k, and the code
 abbrev pub codePairs : List ℕ → ℕ → List ℕ
@@ -36,11 +36,11 @@ pub record Holds (list sheet : List ℕ) (entry : ℕ) : Type 0 where
   pub first : captionNumber list sheet entry ≡ accepted → (k : ℕ) → First list (labelIn sheet entry) k
       → captionOf list sheet entry ≡ shownFrom Venue (pairIn (drop pairSize (codePairs list k)))
   pub own : captionNumber list sheet entry ≡ accepted → ((k : ℕ) → k < codesIn list → codeAt list k ≡ labelIn sheet entry → ⊥)
-      → (captionOf list sheet entry ≡ shownFrom Sheet (pairIn (labelPair sheet entry))) × (bytesOf (captionOf list sheet entry) list sheet ≡ labelIn sheet entry)
+      → (captionOf list sheet entry ≡ shownFrom Sheet (pairIn (labelPair sheet entry))) × (shownBytes (captionOf list sheet entry) list sheet ≡ labelIn sheet entry)
   pub label : captionNumber list sheet entry ≡ accepted → labelIn sheet entry ≡ text (getD (sheetItems sheet) entry blankItem .label)
   pub inside : captionOf list sheet entry .at + captionOf list sheet entry .len ≤ length (named (captionOf list sheet entry .source) list sheet)
   pub refused : (captionNumber list sheet entry ≡ accepted → ⊥)
-      → (captionOf list sheet entry ≡ refusedCaption (captionNumber list sheet entry)) × (bytesOf (captionOf list sheet entry) list sheet ≡ [])
+      → (captionOf list sheet entry ≡ refusedCaption (captionNumber list sheet entry)) × (shownBytes (captionOf list sheet entry) list sheet ≡ [])
 
 -- all of it, with the cases worked out by hand: `claimed` carries it
 pub record Claim : Type 0 where

@@ -6,12 +6,12 @@ pub mod finder;
 pub use finder::check_list;
 pub use finder::find_caption;
 use finder::is_list;
-ghost use Rattle.caption.specs.Captions.{captionOf, Shows};
+ghost use Rattle.caption.specs.Captions.{captionOf, IsPart};
 ghost use Rattle.caption.specs.Claim.{Claim};
 
 // The named form of a caption: the part itself, of one of the two.
 pub fn caption<'a>(list: &'a [u8], sheet: &'a [u8], entry: usize) -> &'a [u8]
-    ensures { λ r. ⌜ Shows (captionOf (now (list .entry)) (now (sheet .entry)) entry) (list .entry) (sheet .entry) r ⌝ }
+    ensures { λ r. ⌜ IsPart (captionOf (now (list .entry)) (now (sheet .entry)) entry) (list .entry) (sheet .entry) r ⌝ }
 {
     let found = find_caption(list, sheet, entry);
     let start = found.at;

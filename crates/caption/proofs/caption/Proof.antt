@@ -4,7 +4,7 @@ use mathlib.Core.Path.{refl, sym, _∙_}
 use native.Mathlib.Omega.{arith}
 use borrow.Author.Needs.{needs}
 use lib.ListN.{length}
-use Rattle.caption.proofs.Parts.{end-fits, in-list, in-sheet, shows-list, shows-sheet}
+use Rattle.caption.proofs.Parts.{end-fits, in-list, in-sheet, part-of-list, part-of-sheet}
 use Rattle.caption.proofs.caption.Statement.{statement}
 use Rattle.caption.proofs.caption.Tie as tie
 
@@ -35,7 +35,7 @@ part-result-end c =
 returns : tie.Need-returns
 returns c =
     let a = c .before .before .before .before .before .before .before .args in
-    shows-list _ _ (a .list) (a .sheet) _ (c .before .before .before .before .find-caption .ensures) (sym (c .before .before .is-list .ensures) ∙ c .before .if1 .taken) refl refl refl
+    part-of-list _ _ (a .list) (a .sheet) _ (c .before .before .before .before .find-caption .ensures) (sym (c .before .before .is-list .ensures) ∙ c .before .if1 .taken) refl refl refl
 
 sub-result-2 : tie.Need-sub-result-2
 sub-result-2 c = search needs
@@ -51,7 +51,7 @@ part-result-end-2 c =
 returns-2 : tie.Need-returns-2
 returns-2 c =
     let a = c .before .before .before .before .before .before .before .args in
-    shows-sheet _ _ (a .list) (a .sheet) _ (c .before .before .before .before .find-caption .ensures) (sym (c .before .before .is-list .ensures) ∙ c .before .if1 .left) refl refl refl
+    part-of-sheet _ _ (a .list) (a .sheet) _ (c .before .before .before .before .find-caption .ensures) (sym (c .before .before .is-list .ensures) ∙ c .before .if1 .left) refl refl refl
 
 pub caption-spec : {M : Type 1} → statement M
 caption-spec =
