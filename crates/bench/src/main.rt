@@ -4,6 +4,7 @@
 // rows are looked at after every call, and 20 more where it is played by value. It prints the elapsed time that the calls come to,
 // or the base where entries are added, and a sum of what was seen, each as the eight hex digits of its bits. No input: nothing is
 // done.
+#![tactic(auto)]
 mod by_value;
 mod in_place;
 mod jobs;
@@ -14,7 +15,7 @@ use libc::{STDIN_FILENO, STDOUT_FILENO};
 const INPUT: usize = 6;
 
 // What the calls come to: a time, and a sum of the rows that were looked at.
-#[derive(Drop)]
+#[derive(Clone, Copy)]
 pub struct Came {
     time: f32,
     seen: u32,

@@ -1,4 +1,5 @@
 // The door log (paper 01, "The door log program") as functions on slices: the line of the sheet, then a line for each call.
+#![tactic(auto)]
 mod fields;
 mod lines;
 
@@ -26,14 +27,14 @@ pub const LIST: usize = 256;
 const NO_CALL: u8 = 255;
 
 // A call of a script: its byte and its f32.
-#[derive(Drop)]
+#[derive(Clone, Copy)]
 struct Call {
     byte: u8,
     x: f32,
 }
 
 // A log: how many lines of calls it has, whether its sheet was accepted, and what plays, as the calls left it.
-#[derive(Drop)]
+#[derive(Clone, Copy)]
 pub struct Log {
     pub number: usize,
     pub logging: bool,
@@ -41,7 +42,7 @@ pub struct Log {
 }
 
 // The answer of open: how long the line is, the number by which the sheet is refused, and the log.
-#[derive(Drop)]
+#[derive(Clone, Copy)]
 pub struct Opened {
     pub len: usize,
     pub refusal: u8,
@@ -49,7 +50,7 @@ pub struct Opened {
 }
 
 // The answer of batch: how many bytes it used, how long the lines are, and the log.
-#[derive(Drop)]
+#[derive(Clone, Copy)]
 pub struct Batched {
     pub used: usize,
     pub len: usize,
@@ -57,7 +58,7 @@ pub struct Batched {
 }
 
 // The answer of run: the number of the last call, the playhead, how many bytes it used, and how long the lines are.
-#[derive(Drop)]
+#[derive(Clone, Copy)]
 struct Ran {
     number: usize,
     head: Playhead,
@@ -66,7 +67,7 @@ struct Ran {
 }
 
 // The answer of next: how long the line is, its number, and the playhead.
-#[derive(Drop)]
+#[derive(Clone, Copy)]
 struct Logged {
     len: usize,
     number: usize,

@@ -16,14 +16,14 @@ const COUNT_SIZE: usize = 2;
 const CODE_SIZE: usize = 8;
 
 // Which of the two a caption is a part of.
-#[derive(Drop)]
+#[derive(Clone, Copy)]
 pub enum Source {
     Sheet,
     List,
 }
 
 // The part that is shown: of which of the two, from where, and how long. Of a refused call it is the empty start of the sheet.
-#[derive(Drop)]
+#[derive(Clone, Copy)]
 pub struct Caption {
     pub refusal: u8,
     pub source: Source,
@@ -32,14 +32,14 @@ pub struct Caption {
 }
 
 // Whether a code is the label, and the pair of its words.
-#[derive(Drop)]
+#[derive(Clone, Copy)]
 struct Match {
     found: bool,
     words: Pair,
 }
 
 // What a pass over a list finds: the number by which the list is refused, and the first match.
-#[derive(Drop)]
+#[derive(Clone, Copy)]
 struct LookUp {
     refusal: u8,
     first: Match,

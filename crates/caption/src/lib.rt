@@ -1,6 +1,7 @@
 // The venue's own words (paper 02, S-1): the caption of a sheet's entry is a part of the venue list, or of the sheet. No byte is copied.
 //
 // A venue list is a u16 number of codes, two pairs for each, that of the code and that of its words, and the text.
+#![tactic(auto)]
 pub mod finder;
 
 ghost use Rattle.caption.specs.Captions.{caption_of, IsPart};

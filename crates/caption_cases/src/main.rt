@@ -3,6 +3,7 @@
 // Standard input has records: u32 a and a bytes, the list, at most 140,000; u32 b and b bytes, the sheet, at most 12,000; u32 entry. Of
 // each `refusal source at len text` is written: source S or L, the text as hex pairs, or `-` where it is empty. A record that is
 // longer, or that the input does not have whole, is `cut`, and the last.
+#![tactic(auto)]
 use caption::finder::letter;
 use caption::{caption, find_caption};
 use case_io::text::{BUFFER, Sink};
@@ -14,7 +15,7 @@ const LIST: usize = 140_000;
 const SHEET: usize = 12_000;
 
 // The text so far, and whether there may be more records.
-#[derive(Drop)]
+#[derive(Clone, Copy)]
 struct Turn {
     sink: Sink,
     more: bool,

@@ -5,14 +5,14 @@ use libc::STDIN_FILENO;
 use words::u32_at;
 
 // What is to be printed: whether the first byte says so, and whether that is text.
-#[derive(Drop)]
+#[derive(Clone, Copy)]
 pub struct Form {
     pub known: bool,
     pub text: bool,
 }
 
 // A u32: whether the input ended before it, whether all of it is there, and the number.
-#[derive(Drop)]
+#[derive(Clone, Copy)]
 pub struct Word {
     pub ended: bool,
     pub whole: bool,
@@ -20,7 +20,7 @@ pub struct Word {
 }
 
 // A record: whether the input ended before it, whether all of it is there, and how many of its bytes are.
-#[derive(Drop)]
+#[derive(Clone, Copy)]
 pub struct Record {
     pub ended: bool,
     pub whole: bool,

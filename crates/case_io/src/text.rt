@@ -17,7 +17,7 @@ pub const FNV_OFFSET: u32 = 0x811c_9dc5;
 const FNV_PRIME: u64 = 0x0100_0193;
 
 // Whether text or digests are printed, how much of the buffer is used, and the digest of what was taken.
-#[derive(Drop)]
+#[derive(Clone, Copy)]
 pub struct Sink {
     pub text: bool,
     pub used: usize,

@@ -1,4 +1,5 @@
 // The clock of a timeline, and what each call makes of it (timeline.rs; paper 01, part 4).
+#![tactic(auto)]
 ghost use Rattle.std.specs.Prelude.{◌≡◌, cond};
 ghost use Rattle.clock.specs.Clocks.{letter_of, is_playing, is_completed, with_state, scaled, cleared, started, play_state, played, play_rule, paused_state, paused, resumed_state, resumed, unended, seek_to, share_in, seek_state, sought, advances, advance_rule, next_elapsed, within, reach_of, fires, advanced_clock};
 
@@ -6,7 +7,7 @@ use steps::Rule;
 use tween::Loop;
 
 // The playback state of a timeline.
-#[derive(Drop)]
+#[derive(Clone, Copy)]
 pub enum TimelineState {
     // Ready, and not advancing.
     Idle,
@@ -19,7 +20,7 @@ pub enum TimelineState {
 }
 
 // Seconds of play so far, the state, the time scale, and whether the whole-run completion has fired since the last reset.
-#[derive(Drop)]
+#[derive(Clone, Copy)]
 pub struct Clock {
     pub elapsed: f32,
     pub state: TimelineState,
@@ -28,7 +29,7 @@ pub struct Clock {
 }
 
 // Where an update comes to: the elapsed time, and whether the run ends there.
-#[derive(Drop)]
+#[derive(Clone, Copy)]
 pub struct Reach {
     pub elapsed: f32,
     pub ended: bool,

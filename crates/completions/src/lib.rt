@@ -1,6 +1,7 @@
 // Where a timeline's entries end, and what completes outside Once: `duration` and `entry_completion_labels_between` of
 // timeline.rs, the latter as entry numbers. Entries are two lent columns, their starts and their durations.
 // One pass over the cycles counts the completions, and stops as soon as they outnumber the lent list; a second pass writes them.
+#![tactic(auto)]
 ghost use Rattle.std.specs.Prelude.{◌≡◌, true, false, ◌+◌, ◌≤◌, min, length, leb};
 ghost use mathlib.Core.List.{foldl};
 ghost use Rattle.std.proofs.lemmas.List.Edits.{sets};
@@ -19,14 +20,14 @@ use tween::Loop;
 pub const MOST_ENTRIES: usize = 256;
 
 // The answer: how many completions were listed, or that they outnumber the list.
-#[derive(Drop)]
+#[derive(Clone, Copy)]
 pub enum Counted {
     Within(usize),
     Over,
 }
 
 // What stays as it is over a walk. Where bounded is false, there is no largest number of cycles.
-#[derive(Drop)]
+#[derive(Clone, Copy)]
 struct Walk {
     prev: f32,
     next: f32,

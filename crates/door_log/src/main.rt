@@ -1,5 +1,6 @@
 // The door log: standard input has a sheet and a script, standard output gets the log (docs/FORMATS.md). Crate call_log makes the
 // lines; they are written as the calls come, in bounded memory. Where the log is not whole, standard error has a line that says why.
+#![tactic(auto)]
 ghost use Rattle.std.specs.Prelude.{◌+◌, ◌≤◌, ◌≡◌, ◌++◌, length, take, drop};
 
 use call_log::{CALL, LINE, Log, MAX_SHEET};
@@ -17,7 +18,7 @@ const CHUNK: usize = 65_536;
 const OUT: usize = 65_536;
 
 // Where the program stands: the part of what was read that is not used yet, whether there is more to do, and the log.
-#[derive(Drop)]
+#[derive(Clone, Copy)]
 struct Door {
     from: usize,
     to: usize,

@@ -1,4 +1,5 @@
 // Bytes as text that a person can read: printable ASCII as it is, every other byte, and the backslash, as `\x` and two hex digits.
+#![tactic(auto)]
 ghost use Rattle.std.specs.Prelude.{◌≡◌, ◌+◌, ◌≤◌, length};
 ghost use Rattle.digits.specs.Digits.{put_at};
 ghost use Rattle.escape.specs.Escape.{plain, escaped_byte, escaped_by, escaped_room};
@@ -7,7 +8,7 @@ ghost use Rattle.escape.specs.Claim.{Claim};
 use steps::least;
 
 // How many bytes were taken, and how many bytes their text has.
-#[derive(Drop)]
+#[derive(Clone, Copy)]
 pub struct Escaped {
     pub used: usize,
     pub len: usize,

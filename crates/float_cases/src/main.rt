@@ -3,6 +3,7 @@
 // Standard input is records of 21 bytes: the number of a question (question.rt) and five operands, u32, little-endian; a float is
 // given by its bits, and operands that a question does not have count for nothing. For each record a line is written: the refusal
 // as two hex digits, a space, and the answer as eight hex digits. Bytes at the end that are no whole record are passed over.
+#![tactic(auto)]
 mod question;
 
 ghost use Rattle.std.specs.Prelude.{◌+◌, ◌≤◌};

@@ -5,7 +5,7 @@ ghost use Rattle.float_cases.specs.Question.{answer_of, unknown, number, truth, 
 use tween::{GridOrigin, StaggerPattern};
 
 // A refusal (0: none) and a number, or a float's bits.
-#[derive(Drop)]
+#[derive(Clone, Copy)]
 pub struct Answer {
     pub refusal: u8,
     pub bits: u32,

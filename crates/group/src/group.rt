@@ -16,27 +16,27 @@ use track::track::Share;
 use tween::StaggerPattern;
 
 // A group of animations that is controlled as one.
-#[derive(Drop)]
+#[derive(Clone, Copy)]
 pub struct AnimationGroup {
     pub inner: Timeline,
 }
 
 // The answer of the builders; where one is refused, the group is empty.
-#[derive(Drop)]
+#[derive(Clone, Copy)]
 pub struct GroupBuilt {
     pub refusal: u8,
     pub group: AnimationGroup,
 }
 
 // The answer of play, reset, seek and reverse.
-#[derive(Drop)]
+#[derive(Clone, Copy)]
 pub struct GroupMoved {
     pub refusal: u8,
     pub group: AnimationGroup,
 }
 
 // The answer of update: whether it still runs, whether the whole-run completion fired now, and how many entries it listed.
-#[derive(Drop)]
+#[derive(Clone, Copy)]
 pub struct GroupUpdated {
     pub refusal: u8,
     pub running: bool,

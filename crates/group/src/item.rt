@@ -9,7 +9,7 @@ use steps::MAX_ENTRIES;
 use timeline::timeline::{At, Timeline};
 
 // The answer of a builder; where it is refused, the timeline is empty.
-#[derive(Drop)]
+#[derive(Clone, Copy)]
 pub struct Built {
     pub refusal: u8,
     pub timeline: Timeline,
@@ -21,7 +21,7 @@ const PREFIX: usize = 5;
 const LONGEST: usize = 25;
 
 // The label of an item: the first len bytes.
-#[derive(Drop)]
+#[derive(Clone, Copy)]
 pub struct ItemLabel {
     pub bytes: [u8; LONGEST],
     pub len: usize,

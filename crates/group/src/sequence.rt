@@ -5,14 +5,14 @@ ghost use Rattle.group.specs.Sequence.{new_sequence, cursor_after, then_by, Then
 use timeline::timeline::{Added, At, Timeline};
 
 // A timeline, and the second at which its next entry starts.
-#[derive(Drop)]
+#[derive(Clone, Copy)]
 pub struct Sequence {
     pub inner: Timeline,
     pub cursor: f32,
 }
 
 // The answer of the calls that add an entry.
-#[derive(Drop)]
+#[derive(Clone, Copy)]
 pub struct Sequenced {
     pub refusal: u8,
     pub sequence: Sequence,

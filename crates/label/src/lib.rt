@@ -1,4 +1,5 @@
 // Labels of timeline entries, by value (paper 01, "A panel").
+#![tactic(auto)]
 ghost use Rattle.std.specs.Prelude.{◌≡◌, ◌≤◌, length, take};
 ghost use Rattle.label.specs.Label.{max_label, text, label_of, same_text, first_with, first_like};
 
@@ -8,14 +9,14 @@ use steps::MAX_ENTRIES;
 pub const MAX_LABEL: usize = 24;
 
 // The text is the first len bytes; a length past MAX_LABEL counts as MAX_LABEL. Bytes past the text are no part of the label and are kept zero.
-#[derive(Drop)]
+#[derive(Clone, Copy)]
 pub struct Label {
     pub bytes: [u8; MAX_LABEL],
     pub len: u8,
 }
 
 // The number of the label that was looked for.
-#[derive(Drop)]
+#[derive(Clone, Copy)]
 pub enum Found {
     At(usize),
     Nothing,

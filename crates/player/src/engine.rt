@@ -17,14 +17,14 @@ use track::checks::{replies_bad, rows_short};
 use track::track::{Playhead, Secs, Share};
 
 // The answer of play, reset and the seeks.
-#[derive(Drop)]
+#[derive(Clone, Copy)]
 pub struct Moved {
     pub refusal: u8,
     pub clock: Clock,
 }
 
 // The answer of update: whether it still runs, whether the whole-run completion fired now, and how many entries it listed.
-#[derive(Drop)]
+#[derive(Clone, Copy)]
 pub struct Updated {
     pub refusal: u8,
     pub running: bool,

@@ -1,4 +1,5 @@
 // The numbers by which a call is refused (paper 01, "Refusals"). 0 means accepted.
+#![tactic(auto)]
 
 pub const ACCEPTED: u8 = 0;
 

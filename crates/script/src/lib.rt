@@ -1,4 +1,5 @@
 // The calls of a script (paper 01, "The door log program"): each byte its call, made in place on what plays.
+#![tactic(auto)]
 ghost use Rattle.std.specs.Prelude.{◌≡◌};
 ghost use Rattle.refusal.specs.Refusal.{accepted, bad_call};
 ghost use Rattle.script.specs.Scripts.{MadeInPlace};
@@ -9,7 +10,7 @@ use player::engine::{Moved, Updated};
 use track::track::{Playhead, Secs, Share};
 
 // What a call answers, and the clock that it leaves.
-#[derive(Drop)]
+#[derive(Clone, Copy)]
 pub struct Outcome {
     pub refusal: u8,
     pub listed: usize,

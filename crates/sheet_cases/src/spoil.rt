@@ -13,7 +13,7 @@ use sheet_format::description::{Description, Item, Placement};
 use steps::{MAX_ENTRIES, least};
 
 // What the writes of spoiled descriptions have left so far: what is printed, the lengths added up, and the rooms' digest.
-#[derive(Drop)]
+#[derive(Clone, Copy)]
 pub struct Spoiled {
     pub sink: Sink,
     pub len: usize,

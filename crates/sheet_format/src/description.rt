@@ -18,7 +18,7 @@ use tween::Loop;
 use words::{PAIR_SIZE, part_at, u32_at};
 
 // Where an entry starts. Seconds are the bits of an f32; the label case carries the number of an entry of the sheet.
-#[derive(Drop)]
+#[derive(Clone, Copy)]
 pub enum Placement {
     Absolute(u32),
     Start,
@@ -28,7 +28,7 @@ pub enum Placement {
 }
 
 // An entry: the bits of its duration, where it is placed, what it is called.
-#[derive(Drop)]
+#[derive(Clone, Copy)]
 pub struct Item {
     pub duration: u32,
     pub at: Placement,
@@ -36,7 +36,7 @@ pub struct Item {
 }
 
 // A panel. Items past the count are no part of it, nor are bytes past a label's length.
-#[derive(Drop)]
+#[derive(Clone, Copy)]
 pub struct Description {
     pub count: usize,
     pub looping: Loop,
@@ -45,7 +45,7 @@ pub struct Description {
 }
 
 // The answer of describe.
-#[derive(Drop)]
+#[derive(Clone, Copy)]
 pub struct Described {
     pub refusal: u8,
     pub description: Description,

@@ -15,7 +15,7 @@ use refusal::{ACCEPTED, ROOM_TOO_SHORT, SHEET_COUNT, SHEET_PAIR, SHEET_PLACEMENT
 use steps::MAX_ENTRIES;
 
 // The answer of write: the number, and how long the sheet is; 0 where nothing was written.
-#[derive(Drop)]
+#[derive(Clone, Copy)]
 pub struct Written {
     pub refusal: u8,
     pub len: usize,

@@ -1,4 +1,5 @@
 // What one entry of a timeline is sent, and the times that decide it (timeline.rs; paper 01, part 4 and "A panel").
+#![tactic(auto)]
 ghost use Rattle.std.specs.Prelude.{◌≡◌, true, false, cond, ◌&&◌, ◌||◌, ◌≤◌, min, eqb, T};
 ghost use Rattle.std.specs.Float.{binary32};
 ghost use Rattle.std.specs.Float.Ieee.{sub, rem, lt, le};
@@ -13,7 +14,7 @@ use tween::Loop;
 pub const MAX_ENTRIES: usize = 64;
 
 // An entry: where it starts, how long it is, and whether it is done.
-#[derive(Drop)]
+#[derive(Clone, Copy)]
 pub struct Entry {
     pub start: f32,
     pub duration: f32,
@@ -21,7 +22,7 @@ pub struct Entry {
 }
 
 // An entry's row: the number of resets, plus 4 for an update by the amount, plus 8 for a seek to the place.
-#[derive(Drop)]
+#[derive(Clone, Copy)]
 pub struct Row {
     pub kind: u8,
     pub amount: f32,
@@ -29,14 +30,14 @@ pub struct Row {
 }
 
 // The row that an entry is sent, and the mark that it leaves.
-#[derive(Drop)]
+#[derive(Clone, Copy)]
 pub struct Stepped {
     pub row: Row,
     pub done: bool,
 }
 
 // What a call sends to every entry: nothing, a reset, what brings it to a local time, or that after a reset.
-#[derive(Drop)]
+#[derive(Clone, Copy)]
 pub enum Rule {
     Keep,
     Clear,

@@ -1,10 +1,11 @@
 // Reads and writes of the programs that people run.
+#![tactic(auto)]
 ghost use Rattle.std.specs.Prelude.{◌≡◌, ◌≤◌, length, take};
 
 use steps::least;
 
 // How many bytes are there, and whether the last read failed.
-#[derive(Drop)]
+#[derive(Clone, Copy)]
 pub struct Got {
     pub count: usize,
     pub failed: bool,

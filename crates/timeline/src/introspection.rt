@@ -5,14 +5,14 @@ ghost use Rattle.timeline.specs.Introspections.{known_duration, playback_state, 
 use clock::TimelineState;
 
 // What is reported of.
-#[derive(Drop)]
+#[derive(Clone, Copy)]
 pub enum AnimationKind {
     Timeline,
     Group,
 }
 
 // The coarse playback state.
-#[derive(Drop)]
+#[derive(Clone, Copy)]
 pub enum PlaybackState {
     Idle,
     Playing,
@@ -21,14 +21,14 @@ pub enum PlaybackState {
 }
 
 // The duration in seconds, if there is a finite one.
-#[derive(Drop)]
+#[derive(Clone, Copy)]
 pub enum Duration {
     Finite(f32),
     Unbounded,
 }
 
 // What is reported: of what, how far it has come, the seconds so far, how long it is, and its state.
-#[derive(Drop)]
+#[derive(Clone, Copy)]
 pub struct AnimationIntrospection {
     pub kind: AnimationKind,
     pub progress: f32,

@@ -22,7 +22,7 @@ use track::track::{Secs, Share, Track};
 use tween::Loop;
 
 // Where an entry starts. The label case carries the number of an entry, and means that entry's label.
-#[derive(Drop)]
+#[derive(Clone, Copy)]
 pub enum At {
     // At this second.
     Absolute(f32),
@@ -37,28 +37,28 @@ pub enum At {
 }
 
 // What plays, and what its entries are called.
-#[derive(Drop)]
+#[derive(Clone, Copy)]
 pub struct Timeline {
     pub track: Track,
     pub labels: [Label; MAX_ENTRIES],
 }
 
 // The answer of the calls that add an entry.
-#[derive(Drop)]
+#[derive(Clone, Copy)]
 pub struct Added {
     pub refusal: u8,
     pub timeline: Timeline,
 }
 
 // The answer of play, reset and the seeks.
-#[derive(Drop)]
+#[derive(Clone, Copy)]
 pub struct Moved {
     pub refusal: u8,
     pub timeline: Timeline,
 }
 
 // The answer of update: whether it still runs, whether the whole-run completion fired now, and how many entries it listed.
-#[derive(Drop)]
+#[derive(Clone, Copy)]
 pub struct Updated {
     pub refusal: u8,
     pub running: bool,

@@ -13,7 +13,7 @@ use trace_read::{Cursor, ITEMS, Item, ROWS};
 use tween::StaggerPattern;
 
 // A sequence, where its next item is to be read, and the refusal of each item and the cursor after it.
-#[derive(Drop)]
+#[derive(Clone, Copy)]
 struct Reached {
     cursor: Cursor,
     sequence: Sequence,

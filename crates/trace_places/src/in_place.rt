@@ -11,7 +11,7 @@ use trace_read::{LIST, ROWS, Room, Update};
 use track::track::{Playhead, Secs, Share};
 
 // What a call in place leaves, and whether the call by value left the same.
-#[derive(Drop)]
+#[derive(Clone, Copy)]
 pub struct Followed {
     pub head: Playhead,
     pub same: bool,

@@ -12,7 +12,7 @@ const SPARE_DURATION: f32 = 1.0e30;
 
 // A script at a call: the call's number and byte, where to read on, and what the calls before it left: the timeline by value, and
 // the playhead of the columns in place.
-#[derive(Drop)]
+#[derive(Clone, Copy)]
 pub struct Run {
     pub number: usize,
     pub byte: u32,

@@ -1,5 +1,6 @@
 // The operands of a call, read off the bytes of a script. A cursor that ran past the end, or met an operand that is not allowed,
 // is cut and stays so: what it reads from then on counts for nothing, and the call is not made.
+#![tactic(auto)]
 ghost use Rattle.std.specs.Prelude.{◌<◌, ◌≤◌};
 
 use digits::wide;
@@ -19,7 +20,7 @@ const MANY: u32 = 300;
 pub const ITEMS: usize = 256;
 
 // Where to read on, whether all was there so far, and what was read last.
-#[derive(Drop)]
+#[derive(Clone, Copy)]
 pub struct Cursor {
     pub at: usize,
     pub whole: bool,
@@ -27,7 +28,7 @@ pub struct Cursor {
 }
 
 // Bytes of the script: a label, or replies.
-#[derive(Drop)]
+#[derive(Clone, Copy)]
 pub struct Span {
     pub from: usize,
     pub len: usize,
@@ -35,7 +36,7 @@ pub struct Span {
 }
 
 // How many places of the row slices are lent.
-#[derive(Drop)]
+#[derive(Clone, Copy)]
 pub struct Room {
     pub kinds: usize,
     pub amounts: usize,
@@ -44,7 +45,7 @@ pub struct Room {
 }
 
 // What an update is handed: the step, the places of the row slices and of the list that are lent, and the replies.
-#[derive(Drop)]
+#[derive(Clone, Copy)]
 pub struct Update {
     pub dt: f32,
     pub room: Room,
@@ -54,7 +55,7 @@ pub struct Update {
 }
 
 // A placement: its kind, the seconds of kinds 0 and 4, and the label that kind 3 looks for.
-#[derive(Drop)]
+#[derive(Clone, Copy)]
 pub struct Placement {
     pub kind: u32,
     pub secs: f32,
@@ -62,20 +63,20 @@ pub struct Placement {
     pub next: Cursor,
 }
 
-#[derive(Drop)]
+#[derive(Clone, Copy)]
 pub struct Mode {
     pub mode: Loop,
     pub next: Cursor,
 }
 
-#[derive(Drop)]
+#[derive(Clone, Copy)]
 pub struct Pattern {
     pub pattern: StaggerPattern,
     pub next: Cursor,
 }
 
 // Durations: the first len values.
-#[derive(Drop)]
+#[derive(Clone, Copy)]
 pub struct Durations {
     pub values: [f32; ROWS],
     pub len: usize,
@@ -83,7 +84,7 @@ pub struct Durations {
 }
 
 // An item of a sequence: its kind (then, then_for, gap), its label where it has one, and its seconds.
-#[derive(Drop)]
+#[derive(Clone, Copy)]
 pub struct Item {
     pub kind: u32,
     pub label: Span,

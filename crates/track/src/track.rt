@@ -12,15 +12,15 @@ use steps::{Entry, MAX_ENTRIES};
 use tween::Loop;
 
 // Seconds of play, as `seek_abs` takes them.
-#[derive(Drop)]
+#[derive(Clone, Copy)]
 pub struct Secs(pub f32);
 
 // A share of the run, from 0 to 1, as `seek` takes it.
-#[derive(Drop)]
+#[derive(Clone, Copy)]
 pub struct Share(pub f32);
 
 // What plays. The entries that count are the first count of the array, or all of it.
-#[derive(Drop)]
+#[derive(Clone, Copy)]
 pub struct Track {
     pub count: usize,
     pub entries: [Entry; MAX_ENTRIES],
@@ -29,7 +29,7 @@ pub struct Track {
 }
 
 // What plays, but for its entries, which stand in columns: how many of them count, the clock and the loop mode.
-#[derive(Drop)]
+#[derive(Clone, Copy)]
 pub struct Playhead {
     pub count: usize,
     pub clock: Clock,

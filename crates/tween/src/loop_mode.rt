@@ -3,7 +3,7 @@ ghost use Rattle.std.specs.Prelude.{◌≡◌};
 ghost use Rattle.tween.specs.LoopMode.{passes, is_once};
 
 // What happens when the end of the duration is reached.
-#[derive(Drop)]
+#[derive(Clone, Copy)]
 pub enum Loop {
     // Play once and stop.
     Once,

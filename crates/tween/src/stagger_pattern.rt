@@ -3,7 +3,7 @@ ghost use Rattle.std.specs.Prelude.{◌≡◌, ◌-◌, ◌*◌, ◌%◌, ◌^�
 ghost use Rattle.tween.specs.StaggerPattern.{max_side, abs_diff, finite_or, distance_delay, from_middle, center_distance, grid_distance, grid_delay, hash, random_delay, center_out, edges_in, accepted_delay, refused_delay, delay_of};
 
 // Which cells of a grid start first.
-#[derive(Drop)]
+#[derive(Clone, Copy)]
 pub enum GridOrigin {
     // The top left cell starts first.
     TopLeft,
@@ -26,7 +26,7 @@ pub enum GridOrigin {
 }
 
 // How the starts of several items are delayed. The same pattern and index always give the same delay.
-#[derive(Drop)]
+#[derive(Clone, Copy)]
 pub enum StaggerPattern {
     // By the distance of a cell from the origin of a grid of `cols` columns and `rows` rows, `step` seconds each.
     Grid {
@@ -54,7 +54,7 @@ pub enum StaggerPattern {
 }
 
 // A delay in seconds, or why there is none.
-#[derive(Drop)]
+#[derive(Clone, Copy)]
 pub struct Delay {
     pub refusal: u8,
     pub delay: f32,

@@ -1,4 +1,5 @@
 // Little-endian numbers in a slice of bytes, and pairs: where a part of the slice starts, and how long it is. Bytes past the end are 0.
+#![tactic(auto)]
 ghost use Rattle.std.specs.Prelude.{◌≡◌, ◌+◌, ◌≤◌, length, drop};
 ghost use Rattle.words.specs.Words.{word};
 ghost use Rattle.words.specs.Pairs.{pair_in, part_by, part_of};
@@ -9,7 +10,7 @@ use steps::least;
 pub const PAIR_SIZE: usize = 4;
 
 // A u16 offset and a u16 length.
-#[derive(Drop)]
+#[derive(Clone, Copy)]
 pub struct Pair {
     pub offset: usize,
     pub len: usize,
