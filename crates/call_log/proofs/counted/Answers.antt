@@ -1,0 +1,12 @@
+-- The test decides.
+use borrow.Author.Tests.{lt-ltb, le-ltb}
+use Rattle.call_log.specs.Machine.{counted}
+use Rattle.call_log.proofs.counted.Goals as goal
+
+pub returns-then-n-lt18446744073709551615 : goal.returns-then-n-lt18446744073709551615
+unfolding counted
+returns-then-n-lt18446744073709551615 c = rw (lt-ltb _ _ c.if-n-lt18446744073709551615.true)
+
+pub returns-else-n-lt18446744073709551615 : goal.returns-else-n-lt18446744073709551615
+unfolding counted
+returns-else-n-lt18446744073709551615 c = rw (le-ltb _ _ c.if-n-lt18446744073709551615.false)

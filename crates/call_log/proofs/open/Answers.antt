@@ -1,0 +1,50 @@
+-- The tests in turn, and the line.
+use native.Mathlib.Omega.{arith}
+use mathlib.Core.Path.{◌≡◌, sym, ap, ◌∙◌}
+use Rattle.track.specs.declared.track.Track.{Track}
+use Rattle.sheet.specs.declared.Reading.{Reading}
+use Rattle.sheet.specs.Build.{reading_of}
+use Rattle.call_log.specs.Lines.{shown}
+use Rattle.call_log.specs.Logs.{sheet_in, sheet_number, sheet_line, track_in}
+use Rattle.call_log.proofs.Writing.{wrote_as, wrote_all}
+use Rattle.call_log.proofs.Opening.{uncut, room_whole, part-is, number_cut, number-whole, open-refused, open-accepted}
+use Rattle.call_log.proofs.open.Goals as goal
+
+pub returns-then-is_cut : goal.returns-then-is_cut
+returns-then-is_cut c =
+    let s = c.args.input.now in
+    let n = number_cut s (sym c.is_cut.ensures ∙ c.if-is_cut.true) in
+    let o = open-refused s (λ z. omega arith) in
+    (rw (o.0, o.1, n) c.refuse.ensures.value, rw (o.0, n) c.refuse.ensures.line_after)
+
+pub overflow_add-end : goal.overflow_add-end
+overflow_add-end c =
+    let w = uncut c.args.input.now (sym c.is_cut.ensures ∙ c.if-is_cut.false) in
+    omega (arith, c.sheet_len-end.ensures, room_whole c.args.input.now w)
+
+pub slice_bounds-read-end : goal.slice_bounds-read-end
+slice_bounds-read-end c =
+    let w = uncut c.args.input.now (sym c.is_cut.ensures ∙ c.if-is_cut.false) in
+    omega (arith, c.sheet_len-end.ensures, room_whole c.args.input.now w)
+
+pub returns-then-reading-ne-ACCEPTED : goal.returns-then-reading-ne-ACCEPTED
+returns-then-reading-ne-ACCEPTED c =
+    let s = c.args.input.now in
+    let e = sym c.is_cut.ensures ∙ c.if-is_cut.false in
+    let p = part-is s c.sheet_len-end.result (uncut s e) c.sheet_len-end.ensures in
+    let r : c.read-reading.result ≡ reading_of (sheet_in s) = c.read-reading.ensures ∙ rw p in
+    let n : c.read-reading.result.refusal ≡ sheet_number s = rw r (sym (number-whole s e)) in
+    let o = open-refused s (λ z. c.if-reading-ne-ACCEPTED.true (n ∙ z)) in
+    (rw (o.0, o.1, ← n) c.refuse-then-reading-ne-ACCEPTED.ensures.value, rw (o.0, ← n) c.refuse-then-reading-ne-ACCEPTED.ensures.line_after)
+
+pub returns : goal.returns
+returns c =
+    let s = c.args.input.now in
+    let e = sym c.is_cut.ensures ∙ c.if-is_cut.false in
+    let p = part-is s c.sheet_len-end.result (uncut s e) c.sheet_len-end.ensures in
+    let r : c.read-reading.result ≡ reading_of (sheet_in s) = c.read-reading.ensures ∙ rw p in
+    let n : c.read-reading.result.refusal ≡ sheet_number s = rw r (sym (number-whole s e)) in
+    let o = open-accepted s (sym n ∙ c.if-reading-ne-ACCEPTED.false) in
+    let k : track_in s ≡ c.read-reading.result.timeline.track = ap (λ (q : Reading). q.timeline.track) (sym r) in
+    let w = wrote_as (ap (λ (t : Track). shown (sheet_line t)) k) c.accepted-len.ensures in
+    (rw (o.0, o.1, wrote_all w, k, sym n ∙ c.if-reading-ne-ACCEPTED.false), rw o.0 w.bytes)

@@ -1,0 +1,6 @@
+-- The line, and the empty timeline.
+use Rattle.call_log.proofs.Writing.{wrote_all}
+use Rattle.call_log.proofs.refuse.Goals as goal
+
+pub returns : goal.returns
+returns c = (rw (wrote_all c.refused-len.ensures, c.new-track.ensures), c.refused-len.ensures.bytes)

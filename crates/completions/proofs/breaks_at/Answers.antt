@@ -1,0 +1,15 @@
+-- `breaks_at` is `breaks_at`.
+use mathlib.Core.Logic.{⊎_elim}
+use borrow.Author.Tests.{le-leb, lt-leb}
+use Rattle.completions.specs.Completions.{breaks_at}
+use Rattle.completions.proofs.breaks_at.Goals as goal
+
+pub returns-then-cycle-w : goal.returns-then-cycle-w
+unfolding breaks_at
+returns-then-cycle-w c = simp (c.if-w.true, le-leb _ _ c.if-cycle-w.true)
+
+pub returns : goal.returns
+unfolding breaks_at
+returns c =
+    simp c.cycle_start-start.ensures
+    (⊎_elim (λ p. simp (p.0.taken, lt-leb _ _ p.2.left)) (λ p. simp p.left) c.if-w.branch)

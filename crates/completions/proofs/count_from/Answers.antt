@@ -1,0 +1,47 @@
+-- `count_from` counts cycle by cycle: those counted and those of the cycles still to come are all of them.
+use mathlib.Core.Path.{◌≡◌, refl, ap}
+use Prim.Native.Nat.{◌-◌, ◌^◌}
+use native.Mathlib.Omega.{arith}
+use lib.ListN.{length, length-append}
+use borrow.Author.Rules.{rules}
+use borrow.Author.Tests.{not-true, not-false, le-leb, lt-leb}
+use Rattle.completions.specs.Completions.{cycles_from}
+use Rattle.completions.specs.Columns.{ends_in}
+use Rattle.completions.proofs.Cycles.{cycles-stop, turn}
+use Rattle.completions.proofs.Turns.{turns-less}
+use Rattle.completions.proofs.count_from.Goals as goal
+
+pub loop-stop-init : goal.loop-stop-init
+loop-stop-init c = (search rules, rw c.breaks_at-stop.ensures (omega arith), search rules)
+
+pub returns-then-room-m : goal.returns-then-room-m
+returns-then-room-m c =
+    let a = c.args in
+    let ends = ends_in a.n a.starts.now a.durations.now in
+    let l = c.loop-stop in
+    let e = turn a.w ends l.cycle (not-true l.stop c.loop-stop-test.true) c.cycle_start-start.ensures refl refl in
+    simp (lt-leb (length (cycles_from a.w ends a.first)) a.room (omega (arith, simp length-append at (ap length e))))
+
+pub loop-stop-smaller : goal.loop-stop-smaller
+loop-stop-smaller c =
+    let a = c.args in
+    let ends = ends_in a.n a.starts.now a.durations.now in
+    let l = c.loop-stop in
+    turns-less a.w ends (a.room - l.m) _ l.cycle (not-true l.stop c.loop-stop-test.true)
+    c.cycle_start-start.ensures c.count_cycle-k.ensures (omega arith) (omega arith) c.next_cycle-cycle.ensures c.stops_at-stop.ensures
+
+pub loop-stop-preserved : goal.loop-stop-preserved
+loop-stop-preserved c =
+    let a = c.args in
+    let ends = ends_in a.n a.starts.now a.durations.now in
+    let l = c.loop-stop in
+    let e = turn a.w ends l.cycle (not-true l.stop c.loop-stop-test.true) c.cycle_start-start.ensures c.next_cycle-cycle.ensures c.stops_at-stop.ensures in
+    (omega arith, omega (arith, simp length-append at (ap length e)), rw c.next_cycle-cycle.ensures (omega arith))
+
+pub returns : goal.returns
+returns c =
+    let a = c.args in
+    let ends = ends_in a.n a.starts.now a.durations.now in
+    let l = c.loop-stop in
+    let e : l.m ≡ length (cycles_from a.w ends a.first) = omega (arith, ap length (cycles-stop a.w ends (2 ^ 32) l.cycle), rw (not-false l.stop c.loop-stop-test.false) at l.invariant.1) in
+    rw (← e, le-leb l.m a.room l.invariant.0)

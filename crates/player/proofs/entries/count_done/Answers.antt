@@ -1,0 +1,49 @@
+use Prim.Native.Nat.{ℕ, ◌+◌, ◌<◌}
+use mathlib.Core.Path.{◌≡◌, sym, ap, ◌∙◌}
+use mathlib.Core.Bool.{not, ◌&&◌}
+use mathlib.Core.List.{List}
+use mathlib.Core.Logic.{⊎_elim}
+use native.Mathlib.Omega.{arith}
+use lib.ListN.{length, get_or}
+use Rattle.steps.specs.declared.Entry.{Entry}
+use Rattle.steps.specs.declared.Stepped.{Stepped}
+use Rattle.track.specs.Updates.{ticks, newly_done}
+use Rattle.track.proofs.Marks.{no_entry, no_step}
+use Rattle.track.proofs.Ticks.{length-ticks, turn_at, rest-start, rest_end, rest-turn}
+use Rattle.track.specs.Columns.{first_of}
+use Rattle.track.proofs.Columns.{length-first, first_at}
+use Rattle.player.proofs.entries.count_done.Goals as goal
+
+pub loop-i-init : goal.loop-i-init
+loop-i-init c = (omega arith, omega arith, omega arith, omega arith, omega arith, omega arith, ap (λ (xs : List ℕ). 0 + length xs) (rest-start _ _) ∙ omega arith)
+
+pub loop-i-preserved : goal.loop-i-preserved
+loop-i-preserved c =
+    let g = c.args in
+    let es = first_of g.n g.starts.now g.durations.now g.marks.now in
+    let rs = g.replies.now in
+    let ss = ticks g.prev g.next es rs in
+    let l = c.loop-i in
+    let i = l.i in
+    let v = l.invariant in
+    let s = c.tick_entry-s in
+    let d = c.newly_done in
+    let long : length es ≡ g.n = length-first g.n g.starts.now g.durations.now g.marks.now v.1 v.2 v.3 in
+    let h : i < length es = omega (arith, long) in
+    let here = sym (first_at g.n g.starts.now g.durations.now g.marks.now i (omega arith) v.1 v.2 v.3) in
+    let step = turn_at g.prev g.next es rs i h (omega arith) _ _ here s.ensures in
+    let newly : d.result ≡ (not (get_or es i no_entry).done && (get_or ss i no_step).done) = d.ensures ∙ ap (λ (x : Entry). not x.done && s.result.done) here ∙ ap (λ (y : Stepped). not (get_or es i no_entry).done && y.done) step in
+    let turn = rest-turn es ss (length-ticks g.prev g.next es rs) i d.result h newly in
+    ⊎_elim
+    (λ p. let t = rw p.0.taken at turn in (omega arith, v.1, v.2, v.3, v.4, omega arith, omega (arith, ap length t)))
+    (λ p. let t = rw p.0.left at turn in (omega arith, v.1, v.2, v.3, v.4, omega arith, omega (arith, ap length t)))
+    c.if-newly_done.branch
+
+pub returns : goal.returns
+returns c =
+    let g = c.args in
+    let es = first_of g.n g.starts.now g.durations.now g.marks.now in
+    let v = c.loop-i.invariant in
+    let long : length es ≡ g.n = length-first g.n g.starts.now g.durations.now g.marks.now v.1 v.2 v.3 in
+    let done = rest_end es (ticks g.prev g.next es g.replies.now) c.loop-i.i (omega (arith, long)) in
+    omega (arith, ap length done)

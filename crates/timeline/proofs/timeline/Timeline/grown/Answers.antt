@@ -1,0 +1,5 @@
+-- `grown` is its definition.
+use Rattle.timeline.proofs.timeline.Timeline.grown.Goals as goal
+
+pub returns : goal.returns
+returns c = rw (c.label_of.ensures, c.max-length.ensures)

@@ -1,0 +1,7 @@
+-- `new` is the empty timeline.
+use Rattle.timeline.specs.Placements.{empty}
+use Rattle.timeline.proofs.timeline.Timeline.new.Goals as goal
+
+pub returns : goal.returns
+unfolding empty
+returns c = rw (c.new-track.ensures, c.label_of-none.ensures)

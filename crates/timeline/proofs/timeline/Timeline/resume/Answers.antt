@@ -1,0 +1,8 @@
+-- `resume` is the step that `Resume` says.
+use Rattle.track.specs.Calls.{track_step}
+use Rattle.timeline.specs.Calls.{step}
+use Rattle.timeline.proofs.timeline.Timeline.resume.Goals as goal
+
+pub returns : goal.returns
+unfolding step track_step
+returns c = rw (c.with_clock.ensures, c.resumed-clock.ensures)

@@ -1,0 +1,16 @@
+-- `seek` is the step that `Seek` says.
+use mathlib.Core.Path.{◌≡◌, refl}
+use borrow.Author.Rules.{rules}
+use lib.ListN.{length}
+use Rattle.steps.specs.Times.{max_entries}
+use Rattle.steps.proofs.Lists.{unmapped}
+use Rattle.track.specs.Calls.{Seek}
+use Rattle.timeline.proofs.Doors.{door-moves}
+use Rattle.timeline.proofs.timeline.Timeline.seek.Goals as goal
+
+pub returns : goal.returns
+returns c =
+    let t = c.args.self in
+    let own = c.well-formed.0.0 in
+    let long : length t.track.entries ≡ max_entries = search (unmapped, rules) in
+    door-moves t long (Seek _ _) refl c.lay_out-head.ensures _ _ _ _ _ _ _ _ c.seek-m.ensures c.left-timeline.ensures

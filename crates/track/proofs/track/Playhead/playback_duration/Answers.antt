@@ -1,0 +1,8 @@
+-- `playback_duration` is the run.
+use Rattle.steps.specs.Times.{run_of}
+use Rattle.track.specs.Columns.{track_of}
+use Rattle.track.proofs.track.Playhead.playback_duration.Goals as goal
+
+pub returns : goal.returns
+unfolding track_of
+returns c = rw (c.run_of.ensures, c.duration-base.ensures)

@@ -1,0 +1,22 @@
+-- `lay_out` writes the live entries over the columns, as many as these take.
+use Prim.Native.Nat.{◌≤◌, ◌-◌}
+use mathlib.Core.Path.{◌≡◌}
+use lib.ListN.{length}
+use Rattle.steps.specs.declared.Entry.{Entry}
+use Rattle.steps.specs.Times.{max_entries}
+use Rattle.track.proofs.Laid.{Column}
+use Rattle.track.proofs.track.Track.lay_out.Given as goal
+
+abbrev pub invariant-loop-i : goal.invariant-loop-i
+invariant-loop-i l =
+    let es = taken l.self l.initial.starts l.initial.durations l.initial.marks in
+    (l.i ≤ l.n)
+    × (l.n ≡ length es)
+    × (l.n ≤ max_entries)
+    × (length l.entries ≡ max_entries)
+    × Column (λ (e : Entry). e.start) es l.i l.initial.starts l.starts
+    × Column (λ (e : Entry). e.duration) es l.i l.initial.durations l.durations
+    × Column (λ (e : Entry). e.done) es l.i l.initial.marks l.marks
+
+abbrev pub decreases-loop-i : goal.decreases-loop-i
+decreases-loop-i l = l.n - l.i
