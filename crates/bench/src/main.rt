@@ -5,6 +5,7 @@
 // or the base where entries are added, and a sum of what was seen, each as the eight hex digits of its bits. No input: nothing is
 // done.
 #![tactic(auto)]
+
 mod by_value;
 mod in_place;
 mod jobs;

@@ -1,5 +1,6 @@
 // The door log (paper 01, "The door log program") as functions on slices: the line of the sheet, then a line for each call.
 #![tactic(auto)]
+
 mod fields;
 mod lines;
 

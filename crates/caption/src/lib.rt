@@ -2,6 +2,7 @@
 //
 // A venue list is a u16 number of codes, two pairs for each, that of the code and that of its words, and the text.
 #![tactic(auto)]
+
 pub mod finder;
 
 ghost use Rattle.caption.specs.Captions.{caption_of, IsPart};

@@ -3,6 +3,7 @@
 // Standard input has u32 calls; u32 a and a bytes, the list; u32 b and b bytes, the sheet; u32 entry. Before each call the list's last
 // byte is changed, so that no call can be left out. The sum of all `at + len`, modulo 2^32, is printed.
 #![tactic(auto)]
+
 use caption::find_caption;
 use case_io::input;
 use libc::STDOUT_FILENO;

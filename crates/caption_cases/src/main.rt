@@ -4,6 +4,7 @@
 // each `refusal source at len text` is written: source S or L, the text as hex pairs, or `-` where it is empty. A record that is
 // longer, or that the input does not have whole, is `cut`, and the last.
 #![tactic(auto)]
+
 use caption::finder::letter;
 use caption::{caption, find_caption};
 use case_io::text::{BUFFER, Sink};

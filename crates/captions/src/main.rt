@@ -1,6 +1,7 @@
 // The captions of a sheet (docs/FORMATS.md): descriptor 9 has the venue list, standard input the sheet, and standard output gets a
 // line for each entry. Where the text is not whole, standard error has a line that says why.
 #![tactic(auto)]
+
 use caption::finder::{Caption, letter};
 use caption::{caption, check_list, find_caption};
 use digits::put_decimal;

@@ -1,5 +1,6 @@
 // The clock of a timeline, and what each call makes of it (timeline.rs; paper 01, part 4).
 #![tactic(auto)]
+
 ghost use Rattle.std.specs.Prelude.{◌≡◌, cond};
 ghost use Rattle.clock.specs.Clocks.{letter_of, is_playing, is_completed, with_state, scaled, cleared, started, play_state, played, play_rule, paused_state, paused, resumed_state, resumed, unended, seek_to, share_in, seek_state, sought, advances, advance_rule, next_elapsed, within, reach_of, fires, advanced_clock};
 

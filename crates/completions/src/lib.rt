@@ -2,6 +2,7 @@
 // timeline.rs, the latter as entry numbers. Entries are two lent columns, their starts and their durations.
 // One pass over the cycles counts the completions, and stops as soon as they outnumber the lent list; a second pass writes them.
 #![tactic(auto)]
+
 ghost use Rattle.std.specs.Prelude.{◌≡◌, true, false, ◌+◌, ◌≤◌, min, length, leb};
 ghost use mathlib.Core.List.{foldl};
 ghost use Rattle.std.proofs.lemmas.List.Edits.{sets};

@@ -1,5 +1,6 @@
 // Numbers as text, in ASCII, put into a lent slice. A text that has no room there is not written, and the count is 0. And bytes as wider numbers.
 #![tactic(auto)]
+
 ghost use Rattle.std.specs.Prelude.{◌≡◌, ◌+◌, ◌<◌, ◌≤◌, leb, length};
 ghost use Rattle.digits.specs.Digits.{code_of, digits, hex_text, decimal_places, decimal, put_at, Put};
 ghost use Rattle.digits.specs.Claim.{Claim};

@@ -1,6 +1,7 @@
 // The door log: standard input has a sheet and a script, standard output gets the log (docs/FORMATS.md). Crate call_log makes the
 // lines; they are written as the calls come, in bounded memory. Where the log is not whole, standard error has a line that says why.
 #![tactic(auto)]
+
 ghost use Rattle.std.specs.Prelude.{◌+◌, ◌≤◌, ◌≡◌, ◌++◌, length, take, drop};
 
 use call_log::{CALL, LINE, Log, MAX_SHEET};

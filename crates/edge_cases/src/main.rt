@@ -2,6 +2,7 @@
 // `edges_hold` carries; the others are run: for each a line, with the number by which the call is refused, or 0. A group that a grid
 // staggers is sought, too, so that the rows it is sent show the delays.
 #![tactic(auto)]
+
 ghost use Rattle.std.specs.Prelude.{T};
 ghost use Rattle.edge_cases.specs.Edges.{all_hold, edges};
 

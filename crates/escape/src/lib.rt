@@ -1,5 +1,6 @@
 // Bytes as text that a person can read: printable ASCII as it is, every other byte, and the backslash, as `\x` and two hex digits.
 #![tactic(auto)]
+
 ghost use Rattle.std.specs.Prelude.{◌≡◌, ◌+◌, ◌≤◌, length};
 ghost use Rattle.digits.specs.Digits.{put_at};
 ghost use Rattle.escape.specs.Escape.{plain, escaped_byte, escaped_by, escaped_room};

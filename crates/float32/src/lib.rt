@@ -1,5 +1,6 @@
 // Rust's helpers on f32 that the language lacks (paper 01, part 1), worked out by tests and from the bits.
 #![tactic(auto)]
+
 ghost use Rattle.std.specs.Prelude.{◌≡◌, ◌+◌, ◌*◌, ◌/◌, ◌%◌, ◌^◌, ◌<◌, ◌≤◌};
 ghost use Rattle.std.specs.Float.Ieee as Ieee;
 ghost use Rattle.std.specs.Float.Ieee.Nearest.{closest};

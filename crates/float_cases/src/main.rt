@@ -4,6 +4,7 @@
 // given by its bits, and operands that a question does not have count for nothing. For each record a line is written: the refusal
 // as two hex digits, a space, and the answer as eight hex digits. Bytes at the end that are no whole record are passed over.
 #![tactic(auto)]
+
 mod question;
 
 ghost use Rattle.std.specs.Prelude.{◌+◌, ◌≤◌};

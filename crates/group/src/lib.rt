@@ -1,5 +1,6 @@
 // Builders of timelines, and groups (sequence.rs, stagger.rs, group.rs; paper 01, part 5).
 #![tactic(auto)]
+
 pub mod group;
 pub mod item;
 pub mod sequence;

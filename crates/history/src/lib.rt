@@ -1,5 +1,6 @@
 // What holds of whole lists of calls on a timeline: claims about the definitions that the calls' contracts cite. There is nothing to run.
 #![tactic(auto)]
+
 ghost use Rattle.history.specs.Invariant.{Kept};
 ghost use Rattle.history.specs.Claim.{Claim, PlacesAgree};
 ghost use Rattle.history.specs.Lent.{LentCalls};

@@ -1,5 +1,6 @@
 // Labels of timeline entries, by value (paper 01, "A panel").
 #![tactic(auto)]
+
 ghost use Rattle.std.specs.Prelude.{◌≡◌, ◌≤◌, length, take};
 ghost use Rattle.label.specs.Label.{max_label, text, label_of, same_text, first_with, first_like};
 

@@ -1,5 +1,6 @@
 // Calls on a clock that the caller lends, as `&mut self` in group.rs.
 #![tactic(auto)]
+
 ghost use Rattle.std.specs.Prelude.{◌≡◌};
 ghost use Rattle.clock.specs.Clocks.{scaled, paused, resumed};
 

@@ -1,5 +1,6 @@
 // The calls of a script (paper 01, "The door log program"): each byte its call, made in place on what plays.
 #![tactic(auto)]
+
 ghost use Rattle.std.specs.Prelude.{◌≡◌};
 ghost use Rattle.refusal.specs.Refusal.{accepted, bad_call};
 ghost use Rattle.script.specs.Scripts.{MadeInPlace};

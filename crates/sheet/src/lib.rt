@@ -1,5 +1,6 @@
 // Reading a stored sheet (paper 01, "The sheet"): its description, and the timeline that it builds. sheet_format has the checks and the writer.
 #![tactic(auto)]
+
 ghost use Rattle.std.specs.Prelude.{◌≡◌, ◌≤◌, length, take};
 ghost use Rattle.float32.specs.Helpers.{from_bits};
 ghost use Rattle.steps.specs.Times.{max_entries};

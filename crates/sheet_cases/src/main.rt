@@ -4,6 +4,7 @@
 // Standard input is as case_io says. Its records are sheets, 4096 bytes at most; of each the lines of lines.rt are written. A sheet
 // that the input does not have whole, or that is longer, is `cut`, and the last.
 #![tactic(auto)]
+
 mod lines;
 mod spoil;
 

@@ -1,5 +1,6 @@
 // The stored sheet (paper 01, "The sheet"): what it describes, its checks, its reader and its writer. Header, pairs and records stand apart.
 #![tactic(auto)]
+
 pub mod checks;
 pub mod description;
 pub mod header;

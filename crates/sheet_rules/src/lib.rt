@@ -1,6 +1,7 @@
 // The checks of a stored sheet (paper 01, "Checks") on the numbers that stand in it: of the header, of a pair, of a record. Crate
 // sheet_format reads the numbers.
 #![tactic(auto)]
+
 ghost use Rattle.std.specs.Prelude.{◌≡◌};
 ghost use Rattle.sheet_rules.specs.Rules.{loop_good, header_refusal, pair_fits, placement_good, zeros_good, record_refusal};
 

@@ -1,5 +1,6 @@
 // What one entry of a timeline is sent, and the times that decide it (timeline.rs; paper 01, part 4 and "A panel").
 #![tactic(auto)]
+
 ghost use Rattle.std.specs.Prelude.{◌≡◌, true, false, cond, ◌&&◌, ◌||◌, ◌≤◌, min, eqb, T};
 ghost use Rattle.std.specs.Float.{binary32};
 ghost use Rattle.std.specs.Float.Ieee.{sub, rem, lt, le};

@@ -1,5 +1,6 @@
 // Reads and writes of the programs that people run.
 #![tactic(auto)]
+
 ghost use Rattle.std.specs.Prelude.{◌≡◌, ◌≤◌, length, take};
 
 use steps::least;

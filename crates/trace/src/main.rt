@@ -6,6 +6,7 @@
 // sent, listed or answered (trace_lines). A call whose operands run past the script or are not allowed, and an unknown one, is not
 // made: the line `cut` is written, and the rest of the script is passed over.
 #![tactic(auto)]
+
 mod builders;
 mod introspect;
 mod reverse;

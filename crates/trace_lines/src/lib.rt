@@ -1,5 +1,6 @@
 // The lines that a call prints.
 #![tactic(auto)]
+
 use case_io::fields;
 use case_io::fields::digit;
 use case_io::text::{BUFFER, Sink};

@@ -1,6 +1,7 @@
 // The operands of a call, read off the bytes of a script. A cursor that ran past the end, or met an operand that is not allowed,
 // is cut and stays so: what it reads from then on counts for nothing, and the call is not made.
 #![tactic(auto)]
+
 ghost use Rattle.std.specs.Prelude.{◌<◌, ◌≤◌};
 
 use digits::wide;

@@ -1,5 +1,6 @@
 // Little-endian numbers in a slice of bytes, and pairs: where a part of the slice starts, and how long it is. Bytes past the end are 0.
 #![tactic(auto)]
+
 ghost use Rattle.std.specs.Prelude.{◌≡◌, ◌+◌, ◌≤◌, length, drop};
 ghost use Rattle.words.specs.Words.{word};
 ghost use Rattle.words.specs.Pairs.{pair_in, part_by, part_of};

@@ -3,7 +3,6 @@ use Rattle.clock.specs.Clocks.{play_rule}
 use Rattle.steps.proofs.Tests.{yes, no}
 use Rattle.clock.proofs.play_rule.Goals as goal
 
-
 -- `play_rule` is `play_rule`: each return goes by the tests that led there.
 
 pub returns-then-base : goal.returns-then-base

@@ -12,7 +12,6 @@ use Rattle.float32.proofs.Digits.{closest-le}
 use Rattle.float32.proofs.Convert.{of_int_bits, of_int_zero, of_int_no_nan}
 use Rattle.float32.proofs.from_u32.Goals as goal
 
-
 -- z is the count of n's digits
 module _ (n z : ℕ) (fits : n < 2 ^ 32) (digits : z ≡ size n) where
   known : (n < 2 ^ z) × (z ≤ 32)

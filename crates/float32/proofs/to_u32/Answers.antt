@@ -12,7 +12,6 @@ use Rattle.float32.proofs.Order.{lt-no_nan}
 use Rattle.float32.proofs.Cut.{cut_top, cut_zero, cut-digits, field-reach, yes, no}
 use Rattle.float32.proofs.to_u32.Goals as goal
 
-
 -- d and e are the digits and the field of the pattern of an x between -1 and 2 ^ 32
 module _ (x : Float) (held : T (fits binary32 x)) (lo : T (lt (fin true 1 (pos 0)) x)) (hi : T (lt x (fin false 1 (pos 32)))) (d e : ℕ)
     (digits : d ≡ hid binary32 + to_bits binary32 x % hid binary32) (field : e ≡ to_bits binary32 x % top binary32 / hid binary32) where

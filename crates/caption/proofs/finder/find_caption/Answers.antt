@@ -10,7 +10,6 @@ use Rattle.caption.specs.Captions.{label_pair, shown_from}
 use Rattle.caption.proofs.Numbers.{sheet-refuses, entry-refuses, list-refuses, shown}
 use Rattle.caption.proofs.finder.find_caption.Goals as goal
 
-
 -- the two choices
 
 yes : (b : Bool) (x y : Caption) → b ≡ true → cond b x y ≡ x

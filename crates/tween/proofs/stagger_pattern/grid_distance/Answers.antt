@@ -6,7 +6,6 @@ use native.Mathlib.Omega.{arith}
 use Rattle.tween.specs.StaggerPattern.{max_side, from_middle}
 use Rattle.tween.proofs.stagger_pattern.grid_distance.Goals as goal
 
-
 -- a cell is fewer steps from the middle than there are cells
 
 near : {index count r : ℕ} → r ≡ from_middle index count → index < count → count ≤ max_side → r < max_side

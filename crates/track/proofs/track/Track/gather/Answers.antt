@@ -13,7 +13,6 @@ use Rattle.track.proofs.Columns.{counted, roomy}
 use Rattle.track.proofs.Laid.{gathers, gathers-at, gathered}
 use Rattle.track.proofs.track.Track.gather.Goals as goal
 
-
 -- a turn less is left
 
 fewer : (n i : ℕ) → i < n → n - (i + 1) < n - i

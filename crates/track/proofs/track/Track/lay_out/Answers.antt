@@ -17,7 +17,6 @@ use Rattle.track.proofs.Marks.{no_entry}
 use Rattle.track.proofs.Laid.{column-none, column-more, column-all, laid}
 use Rattle.track.proofs.track.Track.lay_out.Goals as goal
 
-
 -- the entries that the columns take
 
 abbrev taken : Track → List Float → List Float → List Bool → List Entry
