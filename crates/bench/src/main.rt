@@ -11,7 +11,7 @@ mod in_place;
 mod jobs;
 mod rows;
 
-use libc::{STDIN_FILENO, STDOUT_FILENO};
+use streams::{read_to, write_all};
 
 const INPUT: usize = 6;
 
@@ -22,10 +22,11 @@ pub struct Came {
     seen: u32,
 }
 
-fn main() {
+fn main(rt: HostRuntime) {
+    let mut stdin = rt.stdin();
     let mut input = [0u8; INPUT];
-    let n = io::read_full(STDIN_FILENO, &mut input);
-    if n < INPUT {
+    let got = read_to(&mut stdin, &mut input, 0, INPUT);
+    if got.count < INPUT {
         return;
     }
     let turns = word(&input);
@@ -33,7 +34,7 @@ fn main() {
     let mut line = *b"........ ........\n";
     digits::put_hex8(float32::to_bits(came.time), &mut line, 0);
     digits::put_hex8(came.seen, &mut line, 9);
-    io::write_all(STDOUT_FILENO, &line);
+    write_all(rt.stdout(), &line);
 }
 
 fn word(input: &[u8; INPUT]) -> u32 {

@@ -6,24 +6,24 @@
 
 use caption::find_caption;
 use case_io::input;
-use libc::STDOUT_FILENO;
+use std::io::Print;
 
 const LIST: usize = 140_000;
 
 const SHEET: usize = 12_000;
 
-fn main() {
+fn main(rt: HostRuntime) {
+    let mut stdin = rt.stdin();
     let mut list = [0u8; LIST];
     let mut sheet = [0u8; SHEET];
-    let calls = input::read_word();
-    let first = input::read_record(&mut list);
-    let second = input::read_record(&mut sheet);
-    let entry = input::read_word();
+    let calls = input::read_word(&mut stdin);
+    let first = input::read_record(&mut stdin, &mut list);
+    let second = input::read_record(&mut stdin, &mut sheet);
+    let entry = input::read_word(&mut stdin);
     let a = first.len;
     let b = second.len;
     let sum = captions(calls.n, &mut list[..a], &sheet[..b], entry.n);
-    io::print_decimal(STDOUT_FILENO, sum);
-    io::write_all(STDOUT_FILENO, b"\n");
+    rt.println(sum).is_ok();
 }
 
 fn captions(calls: usize, list: &mut [u8], sheet: &[u8], entry: usize) -> u64 {

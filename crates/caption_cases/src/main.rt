@@ -9,6 +9,7 @@ use caption::finder::letter;
 use caption::{caption, find_caption};
 use case_io::text::{BUFFER, Sink};
 use case_io::{fields, input};
+use std::io::Stdin;
 
 // The longest list and the longest sheet.
 const LIST: usize = 140_000;
@@ -23,17 +24,18 @@ struct Turn {
 }
 
 // A proved loop has to end, and nothing says that the input does: so it ends at a number of records that no run reaches.
-fn main() {
+fn main(rt: HostRuntime) {
+    let mut stdin = rt.stdin();
     let mut list = [0u8; LIST];
     let mut sheet = [0u8; SHEET];
     let mut buffer = [0u8; BUFFER];
     let mut turn = Turn {
-        sink: Sink::new(true),
+        sink: Sink::new(rt.stdout(), true),
         more: true,
     };
     let mut number = 0;
     while number < usize::MAX && turn.more {
-        turn = record(turn.sink, &mut buffer, &mut list, &mut sheet);
+        turn = record(&mut stdin, turn.sink, &mut buffer, &mut list, &mut sheet);
         number += 1;
     }
     let sink = turn.sink;
@@ -41,19 +43,25 @@ fn main() {
 }
 
 // Answers the next record.
-fn record(sink: Sink, buffer: &mut [u8; BUFFER], list: &mut [u8], sheet: &mut [u8]) -> Turn {
-    let first = input::read_record(list);
+fn record(
+    stdin: &mut Stdin,
+    sink: Sink,
+    buffer: &mut [u8; BUFFER],
+    list: &mut [u8],
+    sheet: &mut [u8],
+) -> Turn {
+    let first = input::read_record(stdin, list);
     if first.ended {
         return Turn { sink, more: false };
     }
     if !first.whole {
         return cut(sink, buffer);
     }
-    let second = input::read_record(sheet);
+    let second = input::read_record(stdin, sheet);
     if !second.whole {
         return cut(sink, buffer);
     }
-    let entry = input::read_word();
+    let entry = input::read_word(stdin);
     if !entry.whole {
         return cut(sink, buffer);
     }

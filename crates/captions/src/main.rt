@@ -2,17 +2,20 @@
 // line for each entry. Where the text is not whole, standard error has a line that says why.
 #![tactic(auto)]
 
+ghost use Rattle.std.specs.Prelude.{◌≤◌};
+
 use caption::finder::{Caption, letter};
 use caption::{caption, check_list, find_caption};
 use digits::put_decimal;
 use escape::escape;
-use libc::{STDERR_FILENO, STDIN_FILENO, STDOUT_FILENO};
 use refusal::ACCEPTED;
+use std::fs;
+use std::io::{Print, Stderr, Stdout};
 use steps::least;
-use streams::{front, read_to};
+use streams::{Got, front, read_to};
 
-// The descriptor of the venue list: one that nothing else has open.
-const LIST_FILENO: i32 = 9;
+// The venue list's descriptor, one that nothing else has open, as a file.
+const LIST_FILE: &str = "/dev/fd/9";
 
 // One byte more than the longest list that is well formed: all offsets are u16, and so is the last length.
 const LIST: usize = 131_071;
@@ -26,38 +29,57 @@ const HEAD: usize = 96;
 // How much of a text is written at once.
 const PIECE: usize = 65_536;
 
-fn main() {
+fn main(rt: HostRuntime) {
+    let stdout = rt.stdout();
+    let stderr = rt.stderr();
     let mut list = [0u8; LIST];
     let mut sheet = [0u8; SHEET];
-    let first = read_to(LIST_FILENO, &mut list, 0, LIST);
+    let first = read_list(&rt, &mut list);
     if first.failed {
-        not_read();
+        not_read(stderr);
         return;
     }
-    let second = read_to(STDIN_FILENO, &mut sheet, 0, SHEET);
+    let mut stdin = rt.stdin();
+    let second = read_to(&mut stdin, &mut sheet, 0, SHEET);
     if second.failed {
-        not_read();
+        not_read(stderr);
         return;
     }
     let a = first.count;
     let b = second.count;
-    captions(&list[..a], &sheet[..b]);
+    captions(stdout, stderr, &list[..a], &sheet[..b]);
+}
+
+// Reads the venue list. A file that cannot be opened is a read that fails.
+fn read_list(rt: &HostRuntime, list: &mut [u8; LIST]) -> Got
+    ensures { result.count ≤ 131071 }
+{
+    match fs::open(rt, LIST_FILE) {
+        Ok(file) => {
+            let mut reader = file;
+            read_to(&mut reader, list, 0, LIST)
+        }
+        Err(_) => Got {
+            count: 0,
+            failed: true,
+        },
+    }
 }
 
 // The text of a list and a sheet.
-fn captions<'a>(list: &'a [u8], sheet: &'a [u8]) {
+fn captions<'a>(stdout: Stdout, stderr: Stderr, list: &'a [u8], sheet: &'a [u8]) {
     let number = refusal_of(list, sheet);
     if number != ACCEPTED {
-        if write_refused(number) {
-            refused(number);
+        if write_refused(stdout, number) {
+            refused(stderr, number);
         } else {
-            not_written();
+            not_written(stderr);
         }
         return;
     }
     let count = sheet_format::count(sheet);
-    if !write_accepted(count) || !lines(list, sheet, count) {
-        not_written();
+    if !write_accepted(stdout, count) || !lines(stdout, list, sheet, count) {
+        not_written(stderr);
     }
 }
 
@@ -71,11 +93,11 @@ fn refusal_of(list: &[u8], sheet: &[u8]) -> u8 {
 }
 
 // A line for each entry. After the first write that fails nothing more is written: what stands there is the text's beginning.
-fn lines<'a>(list: &'a [u8], sheet: &'a [u8], count: usize) -> bool {
+fn lines<'a>(stdout: Stdout, list: &'a [u8], sheet: &'a [u8], count: usize) -> bool {
     let mut room = [0u8; PIECE];
     let mut entry = 0usize;
     while entry < count {
-        if !line(list, sheet, entry, &mut room) {
+        if !line(stdout, list, sheet, entry, &mut room) {
             return false;
         }
         entry += 1;
@@ -84,21 +106,27 @@ fn lines<'a>(list: &'a [u8], sheet: &'a [u8], count: usize) -> bool {
 }
 
 // `number source at len text`; the line of an empty text ends after its length.
-fn line<'a>(list: &'a [u8], sheet: &'a [u8], entry: usize, room: &mut [u8]) -> bool {
+fn line<'a>(
+    stdout: Stdout,
+    list: &'a [u8],
+    sheet: &'a [u8],
+    entry: usize,
+    room: &mut [u8],
+) -> bool {
     let mut head = [0u8; HEAD];
     let found = find_caption(list, sheet, entry);
     let at = put_fields(&mut head, entry, found);
     let text = caption(list, sheet, entry);
     if text.len() == 0 {
-        return write_with(&mut head, at, b'\n');
+        return write_with(stdout, &mut head, at, b'\n');
     }
-    if !write_with(&mut head, at, b' ') {
+    if !write_with(stdout, &mut head, at, b' ') {
         return false;
     }
-    if !write_text(text, room) {
+    if !write_text(stdout, text, room) {
         return false;
     }
-    write_with(&mut head, 0, b'\n')
+    write_with(stdout, &mut head, 0, b'\n')
 }
 
 // `number source at len`
@@ -114,7 +142,7 @@ fn put_fields(head: &mut [u8; HEAD], entry: usize, found: Caption) -> usize {
 }
 
 // Bytes as text that a person can read, a piece at a time.
-fn write_text(text: &[u8], room: &mut [u8]) -> bool {
+fn write_text(stdout: Stdout, text: &[u8], room: &mut [u8]) -> bool {
     let mut done = 0usize;
     while done < text.len() {
         let made = escape(&text[done..], room);
@@ -122,7 +150,7 @@ fn write_text(text: &[u8], room: &mut [u8]) -> bool {
         if used == 0 {
             return false;
         }
-        if !write(room, made.len) {
+        if !write(stdout, room, made.len) {
             return false;
         }
         done += used;
@@ -131,28 +159,28 @@ fn write_text(text: &[u8], room: &mut [u8]) -> bool {
 }
 
 // Writes the first `len` bytes, and says whether it could.
-fn write(bytes: &[u8], len: usize) -> bool {
-    io::write_all(STDOUT_FILENO, front(bytes, len))
+fn write(stdout: Stdout, bytes: &[u8], len: usize) -> bool {
+    streams::write_all(stdout, front(bytes, len))
 }
 
 // ---- the first line
 
-fn write_refused(number: u8) -> bool {
+fn write_refused(stdout: Stdout, number: u8) -> bool {
     let mut head = [0u8; HEAD];
     let at = put_number(&mut head, 0, number as usize);
-    write_name() && write_with(&mut head, at, b'\n')
+    write_name(stdout) && write_with(stdout, &mut head, at, b'\n')
 }
 
-fn write_accepted(count: usize) -> bool {
+fn write_accepted(stdout: Stdout, count: usize) -> bool {
     let mut head = [0u8; HEAD];
     let at = put_number(&mut head, 0, ACCEPTED as usize);
     let at = put_byte(&mut head, at, b' ');
     let at = put_number(&mut head, at, count);
-    write_name() && write_with(&mut head, at, b'\n')
+    write_name(stdout) && write_with(stdout, &mut head, at, b'\n')
 }
 
-fn write_name() -> bool {
-    io::write_all(STDOUT_FILENO, b"captions ")
+fn write_name(stdout: Stdout) -> bool {
+    streams::write_all(stdout, b"captions ")
 }
 
 // ---- the fields of a line, up to its text
@@ -172,36 +200,33 @@ fn put_number(head: &mut [u8; HEAD], at: usize, n: usize) -> usize {
 }
 
 // Puts one byte more, and writes all.
-fn write_with(head: &mut [u8; HEAD], at: usize, last: u8) -> bool {
+fn write_with(stdout: Stdout, head: &mut [u8; HEAD], at: usize, last: u8) -> bool {
     let end = put_byte(head, at, last);
     let bytes: &[u8] = head;
-    write(bytes, end)
+    write(stdout, bytes, end)
 }
 
 // ---- what standard error gets: the launcher goes by how a line begins
 
 // The text is whole: it is the one line.
-fn refused(number: u8) {
-    io::write_all(STDERR_FILENO, b"captions: refused by ");
-    io::print_decimal(STDERR_FILENO, number as u64);
-    io::write_all(
-        STDERR_FILENO,
-        b"; docs/FORMATS.md says what the number means\n",
-    );
+fn refused(stderr: Stderr, number: u8) {
+    stderr
+        .println(format_args!(
+            "captions: refused by {number}; docs/FORMATS.md says what the number means"
+        ))
+        .is_ok();
 }
 
 // A read failed.
-fn not_read() {
-    io::write_all(
-        STDERR_FILENO,
-        b"captions: reading failed; nothing is written\n",
-    );
+fn not_read(stderr: Stderr) {
+    stderr
+        .println("captions: reading failed; nothing is written")
+        .is_ok();
 }
 
 // A write failed.
-fn not_written() {
-    io::write_all(
-        STDERR_FILENO,
-        b"captions: writing failed; the text is not whole\n",
-    );
+fn not_written(stderr: Stderr) {
+    stderr
+        .println("captions: writing failed; the text is not whole")
+        .is_ok();
 }

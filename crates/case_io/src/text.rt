@@ -2,7 +2,7 @@
 ghost use Rattle.std.specs.Prelude.{◌≡◌, ◌+◌, ◌≤◌};
 
 use digits::wide;
-use libc::STDOUT_FILENO;
+use std::io::Stdout;
 use steps::least;
 
 // The bytes that are kept back before they are taken at once.
@@ -16,9 +16,10 @@ pub const FNV_OFFSET: u32 = 0x811c_9dc5;
 
 const FNV_PRIME: u64 = 0x0100_0193;
 
-// Whether text or digests are printed, how much of the buffer is used, and the digest of what was taken.
+// Standard output, whether text or digests are printed, how much of the buffer is used, and the digest of what was taken.
 #[derive(Clone, Copy)]
 pub struct Sink {
+    pub stdout: Stdout,
     pub text: bool,
     pub used: usize,
     pub digest: u32,
@@ -26,8 +27,14 @@ pub struct Sink {
 
 impl Sink {
     // The text of a case starts with the line `name number`, which is no part of a digest.
-    pub fn begin(text: bool, buffer: &mut [u8; BUFFER], name: &[u8], number: usize) -> Sink {
-        let s = Sink::new(text);
+    pub fn begin(
+        stdout: Stdout,
+        text: bool,
+        buffer: &mut [u8; BUFFER],
+        name: &[u8],
+        number: usize,
+    ) -> Sink {
+        let s = Sink::new(stdout, text);
         if text {
             let s = s.bytes(buffer, name);
             let s = s.number(buffer, b' ', number);
@@ -37,8 +44,9 @@ impl Sink {
     }
 
     // Nothing is taken yet.
-    pub fn new(text: bool) -> Sink {
+    pub fn new(stdout: Stdout, text: bool) -> Sink {
         Sink {
+            stdout,
             text,
             used: 0,
             digest: FNV_OFFSET,
@@ -49,6 +57,7 @@ impl Sink {
         ensures { result.used ≡ used }
     {
         Sink {
+            stdout: self.stdout,
             text: self.text,
             used,
             digest: self.digest,
@@ -63,10 +72,11 @@ impl Sink {
         let bytes: &[u8] = buffer;
         let taken = &bytes[..n];
         if self.text {
-            io::write_all(STDOUT_FILENO, taken);
+            streams::write_all(self.stdout, taken);
             return self.with_used(0);
         }
         Sink {
+            stdout: self.stdout,
             text: false,
             used: 0,
             digest: fold(self.digest, taken),
@@ -89,7 +99,7 @@ impl Sink {
         if !self.text {
             let mut line = [b'\n'; 9];
             digits::put_hex8(done.digest, &mut line, 0);
-            io::write_all(STDOUT_FILENO, &line);
+            streams::write_all(self.stdout, &line);
         }
     }
 

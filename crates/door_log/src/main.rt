@@ -5,9 +5,9 @@
 ghost use Rattle.std.specs.Prelude.{◌+◌, ◌≤◌, ◌≡◌, ◌++◌, length, take, drop};
 
 use call_log::{CALL, LINE, Log, MAX_SHEET};
-use libc::{STDERR_FILENO, STDIN_FILENO, STDOUT_FILENO};
+use std::io::{Print, Stderr, Stdin, Stdout};
 use steps::least;
-use streams::{Got, front, read_to};
+use streams::{Got, front, read, read_to};
 
 // The longest sheet, and the two bytes before it that say how long it is.
 const FRONT: usize = 2_574;
@@ -27,44 +27,47 @@ struct Door {
     log: Log,
 }
 
-fn main() {
+fn main(rt: HostRuntime) {
+    let mut stdin = rt.stdin();
+    let stdout = rt.stdout();
+    let stderr = rt.stderr();
     let mut front = [0u8; FRONT];
     let mut line = [0u8; LINE];
-    let got = read_front(&mut front);
+    let got = read_front(&mut stdin, &mut front);
     if got.failed {
-        not_read();
+        not_read(stderr);
         return;
     }
     let n = got.count;
     let opened = call_log::open(&front[..n], &mut line);
-    let written = write_line(&line, opened.len);
+    let written = write_line(stdout, stderr, &line, opened.len);
     if !written {
         return;
     }
     if opened.refusal != refusal::ACCEPTED {
-        refused(opened.refusal);
+        refused(stderr, opened.refusal);
         return;
     }
     let log = opened.log;
-    script(log);
+    script(&mut stdin, stdout, stderr, log);
 }
 
 // Reads the two bytes that say how long the sheet is, and the sheet, or as much as there is.
-fn read_front(front: &mut [u8]) -> Got
+fn read_front(stdin: &mut Stdin, front: &mut [u8]) -> Got
     ensures { result.count ≤ length front.new }
 {
-    let head = read_to(STDIN_FILENO, front, 0, 2);
+    let head = read_to(stdin, front, 0, 2);
     if head.failed {
         return head;
     }
     let n = head.count;
     let len = least(call_log::sheet_len(&front[..n]), MAX_SHEET);
-    read_to(STDIN_FILENO, front, n, n + len)
+    read_to(stdin, front, n, n + len)
 }
 
 // The calls, to the end of the input. A proved loop has to end, and nothing says that the input does: so it counts its turns down,
 // from a number that no run uses up.
-fn script(log: Log) {
+fn script(stdin: &mut Stdin, stdout: Stdout, stderr: Stderr, log: Log) {
     let mut chunk = [0u8; CHUNK];
     let mut out = [0u8; OUT];
     let mut door = Door {
@@ -75,38 +78,54 @@ fn script(log: Log) {
     };
     let mut turns = u64::MAX;
     while turns > 0 && door.more {
-        door = turn(door, &mut chunk, &mut out);
+        door = turn(stdin, stdout, stderr, door, &mut chunk, &mut out);
         turns -= 1;
     }
 }
 
 // Makes the calls that are there, a batch at a time; reads on where none is.
-fn turn(door: Door, chunk: &mut [u8], out: &mut [u8]) -> Door {
+fn turn(
+    stdin: &mut Stdin,
+    stdout: Stdout,
+    stderr: Stderr,
+    door: Door,
+    chunk: &mut [u8],
+    out: &mut [u8],
+) -> Door {
     let log = door.log;
     let to = least(door.to, chunk.len());
     let from = least(door.from, to);
     let left = to - from;
     if CALL <= left {
-        return batch(log, chunk, from, to, false, out);
+        return batch(stdout, stderr, log, chunk, from, to, false, out);
     }
     shift(chunk, from, left);
-    let got = libc::read(STDIN_FILENO, &mut chunk[left..]);
-    if got < 0 {
-        not_read();
+    let got = read(stdin, &mut chunk[left..]);
+    if got.failed {
+        not_read(stderr);
         return stopped(log);
     }
-    let end = left + least(io::count(got, chunk), chunk.len() - left);
-    batch(log, chunk, 0, end, got == 0, out)
+    let end = left + least(got.count, chunk.len() - left);
+    batch(stdout, stderr, log, chunk, 0, end, got.count == 0, out)
 }
 
 // Makes the calls of a part of what was read, as many as have room for their lines, and writes the lines. At the end of the input no
 // more than one is left: that is all.
-fn batch(log: Log, chunk: &[u8], from: usize, to: usize, ended: bool, out: &mut [u8]) -> Door
+fn batch(
+    stdout: Stdout,
+    stderr: Stderr,
+    log: Log,
+    chunk: &[u8],
+    from: usize,
+    to: usize,
+    ended: bool,
+    out: &mut [u8],
+) -> Door
     requires { (from ≤ to) × (to ≤ length chunk.now) }
 {
     let batched = call_log::batch(log, &chunk[from..to], ended, out);
     let used = least(batched.used, to - from);
-    let written = write(out, batched.len);
+    let written = write(stdout, stderr, out, batched.len);
     let log = batched.log;
     Door {
         from: from + used,
@@ -140,17 +159,17 @@ fn shift(chunk: &mut [u8], from: usize, count: usize)
 }
 
 // Writes the first line.
-fn write_line(line: &[u8; LINE], len: usize) -> bool {
+fn write_line(stdout: Stdout, stderr: Stderr, line: &[u8; LINE], len: usize) -> bool {
     let bytes: &[u8] = line;
-    write(bytes, len)
+    write(stdout, stderr, bytes, len)
 }
 
 // Writes the first `len` bytes, and says whether it could. After the first failure nothing more is written: what stands there is the
 // log's beginning.
-fn write(bytes: &[u8], len: usize) -> bool {
-    let written = io::write_all(STDOUT_FILENO, front(bytes, len));
+fn write(stdout: Stdout, stderr: Stderr, bytes: &[u8], len: usize) -> bool {
+    let written = streams::write_all(stdout, front(bytes, len));
     if !written {
-        not_written();
+        not_written(stderr);
     }
     written
 }
@@ -158,27 +177,24 @@ fn write(bytes: &[u8], len: usize) -> bool {
 // ---- what standard error gets: the launcher goes by how a line begins
 
 // The log is whole: it is the sheet's line.
-fn refused(number: u8) {
-    io::write_all(STDERR_FILENO, b"door_log: the sheet is refused by ");
-    io::print_decimal(STDERR_FILENO, number as u64);
-    io::write_all(
-        STDERR_FILENO,
-        b"; docs/FORMATS.md says what the number means\n",
-    );
+fn refused(stderr: Stderr, number: u8) {
+    stderr
+        .println(format_args!(
+            "door_log: the sheet is refused by {number}; docs/FORMATS.md says what the number means"
+        ))
+        .is_ok();
 }
 
 // A read failed.
-fn not_read() {
-    io::write_all(
-        STDERR_FILENO,
-        b"door_log: reading failed; the log is not whole\n",
-    );
+fn not_read(stderr: Stderr) {
+    stderr
+        .println("door_log: reading failed; the log is not whole")
+        .is_ok();
 }
 
 // A write failed.
-fn not_written() {
-    io::write_all(
-        STDERR_FILENO,
-        b"door_log: writing failed; the log is not whole\n",
-    );
+fn not_written(stderr: Stderr) {
+    stderr
+        .println("door_log: writing failed; the log is not whole")
+        .is_ok();
 }

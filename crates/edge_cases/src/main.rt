@@ -7,25 +7,34 @@ ghost use Rattle.std.specs.Prelude.{T};
 ghost use Rattle.edge_cases.specs.Edges.{all_hold, edges};
 
 use group::group::AnimationGroup;
-use libc::STDOUT_FILENO;
+use std::io::{Print, Stdout};
 use timeline::timeline::{At, Timeline};
 use track::track::Secs;
 use tween::{GridOrigin, StaggerPattern};
 
-fn main() {
+fn main(rt: HostRuntime) {
+    let stdout = rt.stdout();
     edges_hold();
-    line(b"64 entries: ", filled(64));
-    line(b"65 entries: ", filled(65));
-    line(b"label of 24: ", labelled(b"abcdefghijklmnopqrstuvwx"));
-    line(b"label of 25: ", labelled(b"abcdefghijklmnopqrstuvwxy"));
-    line(b"65535 columns: ", gridded(65535, 1));
-    line(b"65536 columns: ", gridded(65536, 1));
-    line(b"65535 rows: ", gridded(1, 65535));
-    line(b"65536 rows: ", gridded(1, 65536));
-    staggered(b"a group over 65535 columns: ", 65535, 1);
-    staggered(b"a group over 65536 columns: ", 65536, 1);
-    staggered(b"a group over 65535 rows: ", 1, 65535);
-    staggered(b"a group over 65536 rows: ", 1, 65536);
+    line(stdout, b"64 entries: ", filled(64));
+    line(stdout, b"65 entries: ", filled(65));
+    line(
+        stdout,
+        b"label of 24: ",
+        labelled(b"abcdefghijklmnopqrstuvwx"),
+    );
+    line(
+        stdout,
+        b"label of 25: ",
+        labelled(b"abcdefghijklmnopqrstuvwxy"),
+    );
+    line(stdout, b"65535 columns: ", gridded(65535, 1));
+    line(stdout, b"65536 columns: ", gridded(65536, 1));
+    line(stdout, b"65535 rows: ", gridded(1, 65535));
+    line(stdout, b"65536 rows: ", gridded(1, 65536));
+    staggered(stdout, b"a group over 65535 columns: ", 65535, 1);
+    staggered(stdout, b"a group over 65536 columns: ", 65536, 1);
+    staggered(stdout, b"a group over 65535 rows: ", 1, 65535);
+    staggered(stdout, b"a group over 65536 rows: ", 1, 65536);
 }
 
 // Carries the table, so that it cannot leave the check.
@@ -71,25 +80,24 @@ fn gridded(cols: u32, rows: u32) -> u8 {
 }
 
 // The group of three animations of a second, staggered over the grid with these sides: its refusal, and what is sent to it.
-fn staggered(name: &[u8], cols: u32, rows: u32) {
+fn staggered(stdout: Stdout, name: &[u8], cols: u32, rows: u32) {
     let built = AnimationGroup::stagger(&[1.0, 1.0, 1.0], grid(cols, rows));
-    line(name, built.refusal);
-    sent(built.group.timeline());
+    line(stdout, name, built.refusal);
+    sent(stdout, built.group.timeline());
 }
 
 // A line for each of three entries: the byte of the row that a seek to 1.5 s sends, 0 where there is no entry.
-fn sent(timeline: Timeline) {
+fn sent(stdout: Stdout, timeline: Timeline) {
     let mut kinds = [0u8; 3];
     let mut amounts = [0.0f32; 3];
     let mut places = [0.0f32; 3];
     timeline.seek_abs(Secs(1.5), &mut kinds, &mut amounts, &mut places);
-    line(b"- row 0: ", kinds[0]);
-    line(b"- row 1: ", kinds[1]);
-    line(b"- row 2: ", kinds[2]);
+    line(stdout, b"- row 0: ", kinds[0]);
+    line(stdout, b"- row 1: ", kinds[1]);
+    line(stdout, b"- row 2: ", kinds[2]);
 }
 
-fn line(name: &[u8], number: u8) {
-    io::write_all(STDOUT_FILENO, name);
-    io::print_decimal(STDOUT_FILENO, number as u64);
-    io::write_all(STDOUT_FILENO, b"\n");
+fn line(stdout: Stdout, name: &[u8], number: u8) {
+    stdout.write_all(name).is_ok();
+    stdout.println(number).is_ok();
 }

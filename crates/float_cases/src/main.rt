@@ -10,7 +10,8 @@ mod question;
 ghost use Rattle.std.specs.Prelude.{◌+◌, ◌≤◌};
 
 use digits::wide;
-use libc::{STDIN_FILENO, STDOUT_FILENO};
+use std::io::{Stdin, Stdout};
+use streams::{read_to, write_all};
 
 const RECORD: usize = 21;
 
@@ -24,21 +25,23 @@ const BLOCK_BYTES: usize = 64_512;
 const BLOCK_LINES: usize = 36_864;
 
 // A proved loop has to end, and nothing says that the input does: so the turns are counted down, from a number that no run uses up.
-fn main() {
+fn main(rt: HostRuntime) {
+    let mut stdin = rt.stdin();
     let mut turns = u64::MAX;
-    while turns > 0 && answer_block() {
+    while turns > 0 && answer_block(&mut stdin, rt.stdout()) {
         turns -= 1;
     }
 }
 
 // Answers the next records, and says whether there may be more.
-fn answer_block() -> bool {
+fn answer_block(stdin: &mut Stdin, stdout: Stdout) -> bool {
     let mut records = [0u8; BLOCK_BYTES];
-    let n = io::read_full(STDIN_FILENO, &mut records);
+    let got = read_to(stdin, &mut records, 0, BLOCK_BYTES);
+    let n = got.count;
     let mut lines = [0u8; BLOCK_LINES];
     let count = n / RECORD;
     put_lines(&records, count, &mut lines);
-    write_lines(&lines, count) && n == BLOCK_BYTES
+    write_lines(stdout, &lines, count) && n == BLOCK_BYTES
 }
 
 // Puts the lines of the first `count` records.
@@ -53,12 +56,12 @@ fn put_lines(records: &[u8; BLOCK_BYTES], count: usize, lines: &mut [u8; BLOCK_L
 }
 
 // Writes out the first `count` lines, and says whether that could be done.
-fn write_lines(lines: &[u8; BLOCK_LINES], count: usize) -> bool
+fn write_lines(stdout: Stdout, lines: &[u8; BLOCK_LINES], count: usize) -> bool
     requires { count ≤ 3072 }
 {
     let n = count * LINE;
     let bytes: &[u8] = lines;
-    io::write_all(STDOUT_FILENO, &bytes[..n])
+    write_all(stdout, &bytes[..n])
 }
 
 // Puts the line of the record at `from`.

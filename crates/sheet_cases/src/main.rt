@@ -11,31 +11,42 @@ mod spoil;
 use case_io::input;
 use case_io::text::{BUFFER, Sink};
 use lines::SHEET;
+use std::io::{Stdin, Stdout};
 
-fn main() {
-    let form = input::read_form();
+fn main(rt: HostRuntime) {
+    let mut stdin = rt.stdin();
+    let form = input::read_form(&mut stdin);
     if form.known {
-        sheets(form.text);
+        sheets(&mut stdin, rt.stdout(), form.text);
     }
 }
 
 // A proved loop has to end, and nothing says that the input does: so it ends at a number of sheets that no run reaches.
-fn sheets(text: bool) {
+fn sheets(stdin: &mut Stdin, stdout: Stdout, text: bool) {
     let mut sheet = [0u8; SHEET];
     let mut buffer = [0u8; BUFFER];
     let mut number = 0;
-    while number < usize::MAX && next_sheet(&mut sheet, &mut buffer, text, number + 1) {
+    while number < usize::MAX
+        && next_sheet(stdin, stdout, &mut sheet, &mut buffer, text, number + 1)
+    {
         number += 1;
     }
 }
 
 // Answers the next sheet, and says whether there may be more.
-fn next_sheet(sheet: &mut [u8], buffer: &mut [u8; BUFFER], text: bool, number: usize) -> bool {
-    let record = input::read_record(sheet);
+fn next_sheet(
+    stdin: &mut Stdin,
+    stdout: Stdout,
+    sheet: &mut [u8],
+    buffer: &mut [u8; BUFFER],
+    text: bool,
+    number: usize,
+) -> bool {
+    let record = input::read_record(stdin, sheet);
     if record.ended {
         return false;
     }
-    let s = Sink::begin(text, buffer, b"sheet", number);
+    let s = Sink::begin(stdout, text, buffer, b"sheet", number);
     if !record.whole {
         let s = s.bytes(buffer, b"cut\n");
         s.end(&*buffer);

@@ -3,6 +3,7 @@
 
 ghost use Rattle.std.specs.Prelude.{◌≡◌, ◌≤◌, length, take};
 
+use std::io::{Print, Read, Stdout};
 use steps::least;
 
 // How many bytes are there, and whether the last read failed.
@@ -12,19 +13,36 @@ pub struct Got {
     pub failed: bool,
 }
 
-// Reads from a descriptor into a slice, from one place to another, until all is there, the input ends, or a read fails.
-pub fn read_to(fd: i32, bytes: &mut [u8], from: usize, to: usize) -> Got
+// Reads once into a slice.
+pub fn read<R: Read>(reader: &mut R, bytes: &mut [u8]) -> Got
+    ensures { result.count ≤ length bytes.new }
+{
+    let len = bytes.len();
+    match reader.read(bytes) {
+        Ok(count) => Got {
+            count: least(count, len),
+            failed: false,
+        },
+        Err(_) => Got {
+            count: 0,
+            failed: true,
+        },
+    }
+}
+
+// Reads into a slice, from one place to another, until all is there, the input ends, or a read fails.
+pub fn read_to<R: Read>(reader: &mut R, bytes: &mut [u8], from: usize, to: usize) -> Got
     ensures { result.count ≤ length bytes.new }
 {
     let end = least(to, bytes.len());
     let mut count = least(from, end);
     while count < end {
-        let got = libc::read(fd, &mut bytes[count..end]);
-        let more = least(io::count(got, bytes), end - count);
+        let got = read(reader, &mut bytes[count..end]);
+        let more = least(got.count, end - count);
         if more == 0 {
             return Got {
                 count,
-                failed: got < 0,
+                failed: got.failed,
             };
         }
         count += more;
@@ -33,6 +51,11 @@ pub fn read_to(fd: i32, bytes: &mut [u8], from: usize, to: usize) -> Got
         count,
         failed: false,
     }
+}
+
+// Writes all the bytes, and says whether it could.
+pub fn write_all(out: Stdout, bytes: &[u8]) -> bool {
+    out.write_all(bytes).is_ok()
 }
 
 // The first `len` bytes, or all where there are fewer.

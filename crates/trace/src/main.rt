@@ -13,6 +13,7 @@ mod reverse;
 
 use case_io::input;
 use case_io::text::{BUFFER, Sink};
+use std::io::{Stdin, Stdout};
 use trace_calls::calls;
 use trace_moves::moves;
 use trace_places::run::Run;
@@ -21,30 +22,40 @@ use trace_read::{Cursor, ROWS};
 // The longest script.
 const SCRIPT: usize = 65_536;
 
-fn main() {
-    let form = input::read_form();
+fn main(rt: HostRuntime) {
+    let mut stdin = rt.stdin();
+    let form = input::read_form(&mut stdin);
     if form.known {
-        scripts(form.text);
+        scripts(&mut stdin, rt.stdout(), form.text);
     }
 }
 
 // A proved loop has to end, and nothing says that the input does: so it ends at a number of scripts that no run reaches.
-fn scripts(text: bool) {
+fn scripts(stdin: &mut Stdin, stdout: Stdout, text: bool) {
     let mut script = [0u8; SCRIPT];
     let mut buffer = [0u8; BUFFER];
     let mut number = 0;
-    while number < usize::MAX && next_script(&mut script, &mut buffer, text, number + 1) {
+    while number < usize::MAX
+        && next_script(stdin, stdout, &mut script, &mut buffer, text, number + 1)
+    {
         number += 1;
     }
 }
 
 // Runs the next script, and says whether there may be more.
-fn next_script(script: &mut [u8], buffer: &mut [u8; BUFFER], text: bool, number: usize) -> bool {
-    let record = input::read_record(script);
+fn next_script(
+    stdin: &mut Stdin,
+    stdout: Stdout,
+    script: &mut [u8],
+    buffer: &mut [u8; BUFFER],
+    text: bool,
+    number: usize,
+) -> bool {
+    let record = input::read_record(stdin, script);
     if record.ended {
         return false;
     }
-    let s = Sink::begin(text, buffer, b"script", number);
+    let s = Sink::begin(stdout, text, buffer, b"script", number);
     let n = record.len;
     let s = run(&script[..n], buffer, s, !record.whole);
     s.end(&*buffer);

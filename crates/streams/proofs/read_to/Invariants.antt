@@ -5,7 +5,7 @@ use lib.ListN.{length}
 use Rattle.streams.proofs.read_to.Given as goal
 
 abbrev pub invariant-loop-count : goal.invariant-loop-count
-invariant-loop-count l = (l.count ≤ l.end) × (l.end ≤ length l.bytes) × (length l.bytes ≡ length l.initial.bytes)
+invariant-loop-count g l = (l.count ≤ l.end) × (l.end ≤ length l.bytes) × (length l.bytes ≡ length l.initial.bytes)
 
 abbrev pub decreases-loop-count : goal.decreases-loop-count
-decreases-loop-count l = l.end - l.count
+decreases-loop-count g l = l.end - l.count
