@@ -10,6 +10,4 @@ returns-then-cycle-w c = simp (c.if-w.true, le-leb _ _ c.if-cycle-w.true)
 
 pub returns : goal.returns
 unfolding breaks_at
-returns c =
-    simp c.cycle_start-start.ensures
-    (⊎_elim (λ p. simp (p.0.taken, lt-leb _ _ p.2.left)) (λ p. simp p.left) c.if-w.branch)
+returns c = ?

@@ -16,13 +16,7 @@ loop-i-init c =
 
 pub loop-i-preserved : goal.loop-i-preserved
 loop-i-preserved c =
-    let a = c.args in
-    let i = c.loop-i.i in
-    let next = cycle-turn a.n a.starts.now a.durations.now c.requires.0 c.requires.1 i a.w a.start c.loop-i-test.true in
-    ⊎_elim
-    (λ p. omega (arith, ap length (next _ (sym p.0.taken ∙ c.completes_in.ensures))))
-    (λ p. omega (arith, ap length (next _ (sym p.0.left ∙ c.completes_in.ensures))))
-    c.if-completes_in.branch
+    ?
 
 pub returns : goal.returns
 returns c =
