@@ -1,7 +1,7 @@
 -- `breaks_at` is `breaks_at`.
-use mathlib.Core.Logic.{⊎_elim}
 use borrow.Author.Tests.{le-leb, lt-leb}
 use Rattle.completions.specs.Completions.{breaks_at}
+use Rattle.completions.proofs.breaks_at.Goals.{then-w+else-cycle-w, else-w}
 use Rattle.completions.proofs.breaks_at.Goals as goal
 
 pub returns-then-cycle-w : goal.returns-then-cycle-w
@@ -10,4 +10,9 @@ returns-then-cycle-w c = simp (c.if-w.true, le-leb _ _ c.if-cycle-w.true)
 
 pub returns : goal.returns
 unfolding breaks_at
-returns c = ?
+returns c =
+    simp c.cycle_start-start.ensures
+    (elim c.if-w.branch [
+    | then-w+else-cycle-w w ↦ simp (w.if-w.true, lt-leb _ _ w.if-cycle-w.false)
+    | else-w w ↦ simp w.if-w.false
+    ])

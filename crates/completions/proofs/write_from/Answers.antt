@@ -44,7 +44,7 @@ loop-stop-preserved c =
     let w = c.write_cycle-m in
     let e = turn a.w ends l.cycle c.loop-stop-test.true s.ensures c.next_cycle-cycle.ensures c.stops_at-stop.ensures in
     let these = in_cycle a.w s.result 0 ends in
-    let stored : w.new.1.1.1.1.1.0 ≡ sets l.list l.m these = w.ensures.1 in (
+    let stored : w.new.list ≡ sets l.list l.m these = w.ensures.1 in (
       ap length stored ∙ length-sets l.list l.m these ∙ l.invariant.0,
       omega (arith, w.ensures.0, simp length-append at (ap length e)),
       store_run l.list l.m _ w.result these (cycles a.w ends (2 ^ 32) c.stops_at-stop.result c.next_cycle-cycle.result) _ stored w.ensures.0 e ∙ l.invariant.2,
