@@ -4,7 +4,7 @@ use Prim.Native.Nat.{◌-◌, ◌^◌}
 use native.Mathlib.Omega.{arith}
 use lib.ListN.{length, length-append}
 use borrow.Author.Rules.{rules}
-use borrow.Author.Tests.{not-true, not-false, le-leb, lt-leb}
+use borrow.Author.Tests.{le-leb, lt-leb}
 use Rattle.completions.specs.Completions.{cycles_from}
 use Rattle.completions.specs.Columns.{ends_in}
 use Rattle.completions.proofs.Cycles.{cycles-stop, turn}
