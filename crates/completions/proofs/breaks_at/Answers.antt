@@ -1,7 +1,7 @@
 -- `breaks_at` is `breaks_at`.
-use mathlib.Core.Logic.{⊎_elim}
 use borrow.Author.Tests.{le-leb, lt-leb}
 use Rattle.completions.specs.Completions.{breaks_at}
+use Rattle.completions.proofs.breaks_at.Goals.{then-w+else-cycle-w, else-w}
 use Rattle.completions.proofs.breaks_at.Goals as goal
 
 pub returns-then-cycle-w : goal.returns-then-cycle-w
@@ -12,4 +12,7 @@ pub returns : goal.returns
 unfolding breaks_at
 returns c =
     simp c.cycle_start-start.ensures
-    (⊎_elim (λ p. simp (p.0.taken, lt-leb _ _ p.2.left)) (λ p. simp p.left) c.if-w.branch)
+    (elim c.if-w.branch [
+    | then-w+else-cycle-w w ↦ simp (w.if-w.true, lt-leb _ _ w.if-cycle-w.false)
+    | else-w w ↦ simp w.if-w.false
+    ])

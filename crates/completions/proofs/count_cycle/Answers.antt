@@ -1,11 +1,11 @@
 -- `count_cycle` counts what the cycle lists: those counted and those still to come are all of them.
 use mathlib.Core.Path.{ap, ◌∙◌, sym}
-use mathlib.Core.Logic.{⊎_elim}
 use native.Mathlib.Omega.{arith}
 use lib.ListN.{length}
 use Rattle.completions.specs.Columns.{ends_in}
 use Rattle.completions.proofs.Cycle.{rest-start}
 use Rattle.completions.proofs.Columns.{cycle-turn, cycle-end}
+use Rattle.completions.proofs.count_cycle.Goals.{then-completes_in, else-completes_in}
 use Rattle.completions.proofs.count_cycle.Goals as goal
 
 pub loop-i-init : goal.loop-i-init
@@ -19,10 +19,10 @@ loop-i-preserved c =
     let a = c.args in
     let i = c.loop-i.i in
     let next = cycle-turn a.n a.starts.now a.durations.now c.requires.0 c.requires.1 i a.w a.start c.loop-i-test.true in
-    ⊎_elim
-    (λ p. omega (arith, ap length (next _ (sym p.0.taken ∙ c.completes_in.ensures))))
-    (λ p. omega (arith, ap length (next _ (sym p.0.left ∙ c.completes_in.ensures))))
-    c.if-completes_in.branch
+    elim c.if-completes_in.branch [
+    | then-completes_in w ↦ omega (arith, w.k-is, ap length (next _ (sym w.if-completes_in.true ∙ c.completes_in.ensures)))
+    | else-completes_in w ↦ omega (arith, w.k-is, ap length (next _ (sym w.if-completes_in.false ∙ c.completes_in.ensures)))
+    ]
 
 pub returns : goal.returns
 returns c =

@@ -4,7 +4,7 @@ use Prim.Native.Nat.{◌-◌, ◌^◌}
 use native.Mathlib.Omega.{arith}
 use lib.ListN.{length, length-append}
 use borrow.Author.Rules.{rules}
-use borrow.Author.Tests.{not-true, not-false, le-leb, lt-leb}
+use borrow.Author.Tests.{le-leb, lt-leb}
 use Rattle.completions.specs.Completions.{cycles_from}
 use Rattle.completions.specs.Columns.{ends_in}
 use Rattle.completions.proofs.Cycles.{cycles-stop, turn}
@@ -19,7 +19,7 @@ returns-then-room-m c =
     let a = c.args in
     let ends = ends_in a.n a.starts.now a.durations.now in
     let l = c.loop-stop in
-    let e = turn a.w ends l.cycle (not-true l.stop c.loop-stop-test.true) c.cycle_start-start.ensures refl refl in
+    let e = turn a.w ends l.cycle c.loop-stop-test.true c.cycle_start-start.ensures refl refl in
     simp (lt-leb (length (cycles_from a.w ends a.first)) a.room (omega (arith, simp length-append at (ap length e))))
 
 pub loop-stop-smaller : goal.loop-stop-smaller
@@ -27,7 +27,7 @@ loop-stop-smaller c =
     let a = c.args in
     let ends = ends_in a.n a.starts.now a.durations.now in
     let l = c.loop-stop in
-    turns-less a.w ends (a.room - l.m) _ l.cycle (not-true l.stop c.loop-stop-test.true)
+    turns-less a.w ends (a.room - l.m) _ l.cycle c.loop-stop-test.true
     c.cycle_start-start.ensures c.count_cycle-k.ensures (omega arith) (omega arith) c.next_cycle-cycle.ensures c.stops_at-stop.ensures
 
 pub loop-stop-preserved : goal.loop-stop-preserved
@@ -35,7 +35,7 @@ loop-stop-preserved c =
     let a = c.args in
     let ends = ends_in a.n a.starts.now a.durations.now in
     let l = c.loop-stop in
-    let e = turn a.w ends l.cycle (not-true l.stop c.loop-stop-test.true) c.cycle_start-start.ensures c.next_cycle-cycle.ensures c.stops_at-stop.ensures in
+    let e = turn a.w ends l.cycle c.loop-stop-test.true c.cycle_start-start.ensures c.next_cycle-cycle.ensures c.stops_at-stop.ensures in
     (omega arith, omega (arith, simp length-append at (ap length e)), rw c.next_cycle-cycle.ensures (omega arith))
 
 pub returns : goal.returns
@@ -43,5 +43,5 @@ returns c =
     let a = c.args in
     let ends = ends_in a.n a.starts.now a.durations.now in
     let l = c.loop-stop in
-    let e : l.m ≡ length (cycles_from a.w ends a.first) = omega (arith, ap length (cycles-stop a.w ends (2 ^ 32) l.cycle), rw (not-false l.stop c.loop-stop-test.false) at l.invariant.1) in
+    let e : l.m ≡ length (cycles_from a.w ends a.first) = omega (arith, ap length (cycles-stop a.w ends (2 ^ 32) l.cycle), rw c.loop-stop-test.false at l.invariant.1) in
     rw (← e, le-leb l.m a.room l.invariant.0)

@@ -6,7 +6,6 @@ use native.Mathlib.Omega.{arith}
 use lib.ListN.{length, length-append}
 use lib.Seq.{sets, length-sets}
 use borrow.Author.Rules.{rules}
-use borrow.Author.Tests.{not-true, not-false}
 use Rattle.completions.specs.Completions.{in_cycle, cycles, cycles_from}
 use Rattle.completions.specs.Columns.{ends_in}
 use Rattle.completions.proofs.Cycle.{store_run, store_all}
@@ -22,7 +21,7 @@ write_cycle-m-requires c =
     let a = c.args in
     let ends = ends_in a.n a.starts.now a.durations.now in
     let l = c.loop-stop in
-    let e = turn a.w ends l.cycle (not-true l.stop c.loop-stop-test.true) c.cycle_start-start.ensures refl refl in
+    let e = turn a.w ends l.cycle c.loop-stop-test.true c.cycle_start-start.ensures refl refl in
     (c.requires.0, c.requires.1, c.requires.2, omega (arith, c.requires, simp length-append at (ap length e)))
 
 pub loop-stop-smaller : goal.loop-stop-smaller
@@ -31,9 +30,9 @@ loop-stop-smaller c =
     let ends = ends_in a.n a.starts.now a.durations.now in
     let l = c.loop-stop in
     let s = c.cycle_start-start in
-    let e = turn a.w ends l.cycle (not-true l.stop c.loop-stop-test.true) s.ensures c.next_cycle-cycle.ensures c.stops_at-stop.ensures in
+    let e = turn a.w ends l.cycle c.loop-stop-test.true s.ensures c.next_cycle-cycle.ensures c.stops_at-stop.ensures in
     let k = simp length-append at (ap length e) in
-    turns-less a.w ends (length (cycles a.w ends (2 ^ 32) l.stop l.cycle)) _ l.cycle (not-true l.stop c.loop-stop-test.true)
+    turns-less a.w ends (length (cycles a.w ends (2 ^ 32) l.stop l.cycle)) _ l.cycle c.loop-stop-test.true
     s.ensures refl (omega (arith, k)) (omega (arith, k)) c.next_cycle-cycle.ensures c.stops_at-stop.ensures
 
 pub loop-stop-preserved : goal.loop-stop-preserved
@@ -43,9 +42,9 @@ loop-stop-preserved c =
     let l = c.loop-stop in
     let s = c.cycle_start-start in
     let w = c.write_cycle-m in
-    let e = turn a.w ends l.cycle (not-true l.stop c.loop-stop-test.true) s.ensures c.next_cycle-cycle.ensures c.stops_at-stop.ensures in
+    let e = turn a.w ends l.cycle c.loop-stop-test.true s.ensures c.next_cycle-cycle.ensures c.stops_at-stop.ensures in
     let these = in_cycle a.w s.result 0 ends in
-    let stored : w.new.1.1.1.1.1.0 ≡ sets l.list l.m these = w.ensures.1 in (
+    let stored : w.new.list ≡ sets l.list l.m these = w.ensures.1 in (
       ap length stored ∙ length-sets l.list l.m these ∙ l.invariant.0,
       omega (arith, w.ensures.0, simp length-append at (ap length e)),
       store_run l.list l.m _ w.result these (cycles a.w ends (2 ^ 32) c.stops_at-stop.result c.next_cycle-cycle.result) _ stored w.ensures.0 e ∙ l.invariant.2,
@@ -57,5 +56,5 @@ returns c =
     let a = c.args in
     let ends = ends_in a.n a.starts.now a.durations.now in
     let l = c.loop-stop in
-    let z : cycles a.w ends (2 ^ 32) l.stop l.cycle ≡ [] = rw (not-false l.stop c.loop-stop-test.false) (cycles-stop a.w ends (2 ^ 32) l.cycle) in
+    let z : cycles a.w ends (2 ^ 32) l.stop l.cycle ≡ [] = rw c.loop-stop-test.false (cycles-stop a.w ends (2 ^ 32) l.cycle) in
     (rw z at l.invariant.2) ∙ store_all (cycles_from a.w ends a.first) a.list.now c.requires.3

@@ -14,4 +14,6 @@ pub loop-used-preserved : goal.loop-used-preserved
 loop-used-preserved c = one-passed _ _ _ _ _ _ _ _ c.loop-used.invariant (omega arith) (omega arith) c.put_escaped-len.ensures
 
 pub returns : goal.returns
-returns c = all-passed _ _ _ _ _ _ c.loop-used.invariant (omega arith)
+returns c =
+    let p = all-passed _ _ _ _ _ _ c.loop-used.invariant (omega arith) in
+    record { value = p.0; room_after = p.1 }

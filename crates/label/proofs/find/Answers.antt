@@ -12,21 +12,21 @@ use Rattle.label.proofs.find.Goals as goal
 pub loop-k-init : goal.loop-k-init
 loop-k-init c =
     let g = c.args in
-    let h : length g.t1 ≡ max_entries = search (unmapped, rules) in
+    let h : length g.labels ≡ max_entries = search (unmapped, rules) in
     let e = c.least-n.ensures in
-    (omega arith, live-length g.count g.t1 max_entries _ h e, omega arith, refl)
+    (omega arith, live-length g.count g.labels max_entries _ h e, omega arith, refl)
 
 pub returns-then-has_text : goal.returns-then-has_text
 returns-then-has_text c =
     let g = c.args in
-    sym (c.loop-k.invariant.3 ∙ first-hit g.count c.loop-k.k g.t1 _ _ (omega arith) c.has_text.ensures c.if-has_text.true)
+    sym (c.loop-k.invariant.3 ∙ first-hit g.count c.loop-k.k g.labels _ _ (omega arith) c.has_text.ensures c.if-has_text.true)
 
 pub loop-k-preserved : goal.loop-k-preserved
 loop-k-preserved c =
     let g = c.args in
-    (omega arith, c.loop-k.invariant.1, c.loop-k.invariant.2, c.loop-k.invariant.3 ∙ first-miss g.count c.loop-k.k g.t1 _ _ (omega arith) c.has_text.ensures c.if-has_text.false)
+    (omega arith, c.loop-k.invariant.1, c.loop-k.invariant.2, c.loop-k.invariant.3 ∙ first-miss g.count c.loop-k.k g.labels _ _ (omega arith) c.has_text.ensures c.if-has_text.false)
 
 pub returns : goal.returns
 returns c =
     let g = c.args in
-    sym (c.loop-k.invariant.3 ∙ first-end g.count c.loop-k.k g.t1 _ (omega arith))
+    sym (c.loop-k.invariant.3 ∙ first-end g.count c.loop-k.k g.labels _ (omega arith))

@@ -18,20 +18,13 @@ pub least-requires : goal.least-requires
 least-requires c =
     search rules
 
--- how many labels count
-
-live : (c : tie.After-least) → c.least.result ≡ length (take c.before.args.count c.before.args.t1)
-live c =
-    let g = c.before.args in
-    let h : length g.t1 ≡ max_entries = search (unmapped, rules) in
-    live-length g.count g.t1 max_entries _ h c.least.ensures
-
 pub returns-then-k-least : goal.returns-then-k-least
 unfolding first_like
 returns-then-k-least c =
-    let n = live c in
     let g = c.args in
-    let h : length (take g.count g.t1) ≤ g.k = omega arith in
+    let s : length g.labels ≡ max_entries = search (unmapped, rules) in
+    let n = live-length g.count g.labels max_entries _ s c.least.ensures in
+    let h : length (take g.count g.labels) ≤ g.k = omega arith in
     no _ _ _ _ (le-ltb _ _ h) refl
 
 pub slice_bounds-bytes-end : goal.slice_bounds-bytes-end
@@ -44,8 +37,9 @@ pub returns : goal.returns
 unfolding first_like
 returns c =
     let g = c.args in
-    let n = live c in
-    let ls = take g.count g.t1 in
+    let s : length g.labels ≡ max_entries = search (unmapped, rules) in
+    let n = live-length g.count g.labels max_entries _ s c.least.ensures in
+    let ls = take g.count g.labels in
     let h : g.k < length ls = omega arith in
-    let t = c.text_len-n.ensures.0 ∙ sym (ap text (part_at g.count g.t1 g.k no_label h)) in
+    let t = c.text_len-n.ensures.0 ∙ sym (ap text (part_at g.count g.labels g.k no_label h)) in
     yes _ _ _ _ (lt-ltb _ _ h) (c.find.ensures ∙ ap (λ (s : List ℕ). first_with s ls) t)

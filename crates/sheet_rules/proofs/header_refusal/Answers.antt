@@ -1,6 +1,6 @@
 -- The checks of `header_refusal`, in turn.
 use mathlib.Core.Path.{sym}
-use borrow.Author.Tests.{le-ltb, lt-ltb, eq-eqb, ne_eqb, not-true, not-false}
+use borrow.Author.Tests.{le-ltb, lt-ltb, eq-eqb, ne_eqb}
 use Rattle.sheet_rules.proofs.header_refusal.Goals as goal
 
 pub returns-then-version-ne-VERSION : goal.returns-then-version-ne-VERSION
@@ -19,7 +19,7 @@ returns-then-not-loop_good c =
       eq-eqb _ _ c.if-reserved-ne0.false,
       le-ltb _ _ c.if-n-gt-MAX_ENTRIES.false,
       sym c.loop_good.ensures,
-      not-true c.loop_good.result c.if-not-loop_good.true,
+      c.if-not-loop_good.true,
     )
 
 pub returns-then-len-n : goal.returns-then-len-n
@@ -29,7 +29,7 @@ returns-then-len-n c =
       eq-eqb _ _ c.if-reserved-ne0.false,
       le-ltb _ _ c.if-n-gt-MAX_ENTRIES.false,
       sym c.loop_good.ensures,
-      not-false c.loop_good.result c.if-not-loop_good.false,
+      c.if-not-loop_good.false,
       lt-ltb _ _ c.if-len-n.true,
     )
 
@@ -40,6 +40,6 @@ returns c =
       eq-eqb _ _ c.if-reserved-ne0.false,
       le-ltb _ _ c.if-n-gt-MAX_ENTRIES.false,
       sym c.loop_good.ensures,
-      not-false c.loop_good.result c.if-not-loop_good.false,
+      c.if-not-loop_good.false,
       le-ltb _ _ c.if-len-n.false,
     )

@@ -18,24 +18,3 @@ pub overflow_add-result-in-Center : goal.overflow_add-result-in-Center
 overflow_add-result-in-Center c =
     let (x, y, cols, rows) = c.requires in
     record { fits = sum_fits (near c.from_middle.ensures x cols) (near c.from_middle-in-Center.ensures y rows) }
-
-pub returns-in-TopLeft : goal.returns-in-TopLeft
-returns-in-TopLeft c = simp c.enum_told-1.given.1
-
-pub returns-in-TopRight : goal.returns-in-TopRight
-returns-in-TopRight c = simp c.enum_told-in-TopRight-1.given.1
-
-pub returns-in-BottomLeft : goal.returns-in-BottomLeft
-returns-in-BottomLeft c = simp c.enum_told-in-BottomLeft-1.given.1
-
-pub returns-in-BottomRight : goal.returns-in-BottomRight
-returns-in-BottomRight c = simp c.enum_told-in-BottomRight-1.given.1
-
-pub returns-in-Center : goal.returns-in-Center
-returns-in-Center c = simp (c.enum_told-in-Center-1.given.1, c.from_middle-in-Center.ensures, c.from_middle.ensures)
-
-pub returns-in-Bottom : goal.returns-in-Bottom
-returns-in-Bottom c = simp c.enum_told-in-Bottom-1.given.1
-
-pub returns-in-Right : goal.returns-in-Right
-returns-in-Right c = simp c.enum_told-in-Right-1.given.1
