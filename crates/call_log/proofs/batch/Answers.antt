@@ -13,4 +13,5 @@ returns c =
     let log = c.args.log in
     let own = c.well_formed.0.1.1 in
     let long : length log.track.entries ≡ max_entries = search (unmapped, rules, own) in
-    runs_whole c.args.ended log c.args.bytes.now c.args.out.now _ _ _ _ _ c.run-ran.result (all_laid log.track long refl c.lay_out-head.ensures.track) c.run-ran.ensures c.gather-track.ensures (search rules)
+    let w = runs_whole c.args.ended log c.args.bytes.now c.args.out.now _ _ _ _ _ c.run-ran.result (all_laid log.track long refl c.lay_out-head.ensures.track) c.run-ran.ensures c.gather-track.ensures (search rules) in
+    record { value = w.0; out_after = w.1 }

@@ -71,6 +71,6 @@ pub returns-in_default : goal.returns-in_default
 returns-in_default c =
     let a = c.args in
     let t = track_of a.head a.starts.now a.durations.now a.marks.now in
-    let no = c.in_default-own.rest in
+    let no = c.in_default.in_default-own.rest in
     rw (outcome-unknown a.replies.now (length a.list.now) (room_of a.kinds.now a.amounts.now a.places.now) t a.byte a.x no.0.0.0.0.0.0.0.1 no.0.0.0.0.0.0.1 no.0.0.0.0.0.1 no.0.0.0.0.1 no.0.0.0.1 no.0.0.1 no.0.1 no.1)
     (made-silent a.head a.starts.now a.durations.now a.marks.now 14 (track_silent 14 t) a.head a.head.clock _ a.list.now a.kinds.now a.amounts.now a.places.now refl refl refl c.unknown.ensures)
