@@ -7,7 +7,7 @@ use Rattle.track.specs.declared.track.Playhead.{Playhead}
 use Rattle.steps.specs.Times.{max_entries}
 use Rattle.track.specs.Tracks.{empty_track}
 use Rattle.track.specs.Columns.{track_of}
-use Rattle.track.specs.Answers.{Lent, lent_track}
+use Rattle.track.specs.Answers.{Lent, LentMut, seen, lent_track}
 use Rattle.words.specs.Words.{word}
 use Rattle.call_log.specs.declared.Log.{Log}
 use Rattle.call_log.specs.declared.Opened.{Opened}
@@ -84,11 +84,11 @@ abbrev pub next_bytes : Log → List ℕ → List ℕ
 next_bytes log rest = shown_all (next_lines log rest)
 
 -- a log whose track plays in the lent columns
-abbrev pub lent_log : ℕ → Bool → Playhead → Lent Float → Lent Float → Lent Bool → Log
-lent_log number logging head starts durations marks = record { number = number; logging = logging; track = lent_track head starts durations marks }
+abbrev pub lent_log : ℕ → Bool → Playhead → Lent Float → Lent Float → LentMut Bool → Log
+lent_log number logging head starts durations marks = record { number = number; logging = logging; track = lent_track head starts durations (seen marks) }
 
 -- and the log that is left in them
-abbrev pub left_log : ℕ → Bool → Playhead → Lent Float → Lent Float → Lent Bool → Log
+abbrev pub left_log : ℕ → Bool → Playhead → Lent Float → Lent Float → LentMut Bool → Log
 left_log number logging head starts durations marks =
     record { number = number; logging = logging; track = track_of head starts.entry.now durations.entry.now marks.exit.now }
 

@@ -9,7 +9,7 @@ use Rattle.track.specs.declared.track.Playhead.{Playhead}
 use Rattle.track.specs.Tracks.{live}
 use Rattle.track.specs.Columns.{track_of, trimmed, laid_over}
 use Rattle.track.specs.Calls.{Room, TrackCall, SeekAbs, TrackOut, track_step}
-use Rattle.track.specs.Answers.{Lent, LaidOut}
+use Rattle.track.specs.Answers.{LentMut, LaidOut}
 use Rattle.timeline.specs.declared.timeline.Timeline.{Timeline}
 use Rattle.timeline.specs.Calls.{On, Out, with_track, step, after}
 use Rattle.history.specs.Claim.{Sought}
@@ -42,7 +42,7 @@ in_place t calls call = gathered_out t (track_step (in_columns t calls) call)
 
 -- Laid out in columns that have room for its live entries, a timeline stands in them with all of these.
 abbrev pub StandsWhole : Timeline → Type 0
-StandsWhole t = (head : Playhead) (starts durations : Lent Float) (marks : Lent Bool) →
+StandsWhole t = (head : Playhead) (starts durations : LentMut Float) (marks : LentMut Bool) →
     let n = length (live t.track) in
     n ≤ length starts.entry.now → n ≤ length durations.entry.now → n ≤ length marks.entry.now → LaidOut t.track head starts durations marks
     → track_of head starts.exit.now durations.exit.now marks.exit.now ≡ in_columns t []

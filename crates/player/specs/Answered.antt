@@ -11,7 +11,7 @@ use Rattle.track.specs.declared.track.Playhead.{Playhead}
 use Rattle.track.specs.Tracks.{live}
 use Rattle.track.specs.Updates.{ticks, newly_done, Advance}
 use Rattle.track.specs.Calls.{fitted, advanced_to}
-use Rattle.track.specs.Answers.{Lent, Answer, UpdatesBy, lent_track, left_track}
+use Rattle.track.specs.Answers.{Lent, LentMut, seen, Answer, UpdatesBy, lent_track, left_track}
 use Rattle.player.specs.declared.engine.Updated.{Updated}
 
 -- what `update` answers beside the clock
@@ -31,7 +31,7 @@ synced_to k base next =
     record { steps = map (ruled (Sync (local_time k.looping base to.elapsed))) (live k); listed = completions_between k.looping (live k) k.clock.elapsed next; reach = to }
 
 -- the update with this course answers r, unless the list is too short for it
-abbrev pub UpdatesTo : Playhead → Lent Float → Lent Float → Lent Bool → Advance → Updated → Lent ℕ → Lent ℕ → Lent Float → Lent Float → Type 0
+abbrev pub UpdatesTo : Playhead → Lent Float → Lent Float → LentMut Bool → Advance → Updated → LentMut ℕ → LentMut ℕ → LentMut Float → LentMut Float → Type 0
 UpdatesTo head starts durations marks course r list kinds amounts places =
-    UpdatesBy (fitted (length list.entry.now) (lent_track head starts durations marks) (advanced_to (lent_track head starts durations marks) course)) (answer_in r) (left_track head r.clock starts durations marks)
+    UpdatesBy (fitted (length list.entry.now) (lent_track head starts durations (seen marks)) (advanced_to (lent_track head starts durations (seen marks)) course)) (answer_in r) (left_track head r.clock starts durations marks)
     list.entry.now list.exit.now kinds.entry.now kinds.exit.now amounts.entry.now amounts.exit.now places.entry.now places.exit.now

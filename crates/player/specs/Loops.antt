@@ -7,7 +7,7 @@ use Rattle.track.specs.declared.track.Playhead.{Playhead}
 use Rattle.track.specs.Tracks.{done_of, rows_of, Sent}
 use Rattle.track.specs.Columns.{first_of}
 use Rattle.track.specs.Updates.{ticks, newly_done}
-use Rattle.track.specs.Answers.{Lent}
+use Rattle.track.specs.Answers.{Lent, LentMut}
 
 -- the playhead that plays the first n entries alone
 abbrev pub counted_at : Playhead → ℕ → Playhead
@@ -26,7 +26,7 @@ abbrev pub lent_done : ℕ → Float → Float → Lent Float → Lent Float →
 lent_done n prev next starts durations marks replies = newly_done 0 (lent_first n starts durations marks) (lent_ticks n prev next starts durations marks replies)
 
 -- the steps have been sent: each row, and each mark
-abbrev pub SentTo : List Stepped → Lent Bool → Lent ℕ → Lent Float → Lent Float → Type 0
+abbrev pub SentTo : List Stepped → LentMut Bool → LentMut ℕ → LentMut Float → LentMut Float → Type 0
 SentTo ss marks kinds amounts places =
     (marks.exit.now ≡ over (done_of ss) marks.entry.now)
     × Sent (rows_of ss) kinds.entry.now kinds.exit.now amounts.entry.now amounts.exit.now places.entry.now places.exit.now

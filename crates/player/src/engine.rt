@@ -5,7 +5,7 @@ ghost use Rattle.clock.specs.Clocks.{advanced_clock, stayed_clock};
 ghost use Rattle.track.specs.Tracks.{live, track_base, Sent};
 ghost use Rattle.track.specs.Columns.{track_of};
 ghost use Rattle.track.specs.Calls.{Play, Reset, Seek, SeekAbs, updated};
-ghost use Rattle.track.specs.Answers.{refused_by, resting_in, reached_from, stayed_in, lent_track, MovesInPlace, UpdatesInPlace, ShowsInPlace};
+ghost use Rattle.track.specs.Answers.{refused_by, resting_in, reached_from, stayed_in, seen, lent_track, MovesInPlace, UpdatesInPlace, ShowsInPlace};
 ghost use Rattle.player.specs.Loops.{counted_at};
 ghost use Rattle.player.specs.Answered.{answer_in, ticked_to, synced_to, UpdatesTo};
 
@@ -233,7 +233,7 @@ fn ticked(
     places: &mut [f32],
 ) -> Updated
     requires { (n ≡ length (live (track_of head starts.now durations.now marks.old))) × (n ≤ length kinds.old) × (n ≤ length amounts.old) × (n ≤ length places.old) × (n ≤ length replies.now) }
-    ensures { UpdatesTo head starts durations marks (ticked_to (lent_track head starts durations marks) base next replies.now) result list kinds amounts places }
+    ensures { UpdatesTo head starts durations marks (ticked_to (lent_track head starts durations (seen marks)) base next replies.now) result list kinds amounts places }
 {
     let c = head.clock;
     let from = float32::min(c.elapsed, base);
@@ -263,7 +263,7 @@ fn looped(
     places: &mut [f32],
 ) -> Updated
     requires { (n ≡ length (live (track_of head starts.now durations.now marks.old))) × (n ≤ length kinds.old) × (n ≤ length amounts.old) × (n ≤ length places.old) × (base ≡ track_base (track_of head starts.now durations.now marks.old)) }
-    ensures { UpdatesTo head starts durations marks (synced_to (lent_track head starts durations marks) base next) result list kinds amounts places }
+    ensures { UpdatesTo head starts durations marks (synced_to (lent_track head starts durations (seen marks)) base next) result list kinds amounts places }
 {
     let c = head.clock;
     let mode = head.looping;
@@ -354,7 +354,7 @@ fn show(
     places: &mut [f32],
 )
     requires { (n ≡ length (live (track_of (counted_at head n) starts.now durations.now marks.old))) × (n ≤ length kinds.old) × (n ≤ length amounts.old) × (n ≤ length places.old) }
-    ensures { Sent (updated (lent_track (counted_at head n) starts durations marks) dt []).rows kinds.old kinds.new amounts.old amounts.new places.old places.new }
+    ensures { Sent (updated (lent_track (counted_at head n) starts durations (seen marks)) dt []).rows kinds.old kinds.new amounts.old amounts.new places.old places.new }
 {
     let c = head.clock;
     let mode = head.looping;

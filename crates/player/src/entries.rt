@@ -7,6 +7,7 @@ ghost use Rattle.completions.specs.Completions.{keep};
 ghost use Rattle.completions.specs.Columns.{most_entries};
 ghost use Rattle.track.specs.Columns.{first_of};
 ghost use Rattle.track.specs.Updates.{ticks, newly_done};
+ghost use Rattle.track.specs.Answers.{seen};
 ghost use Rattle.player.specs.Loops.{lent_first, lent_ticks, lent_done, SentTo};
 
 use steps::{Entry, Rule, Stepped};
@@ -23,7 +24,7 @@ pub(crate) fn apply(
     places: &mut [f32],
 )
     requires { (n ≤ length starts.now) × (n ≤ length durations.now) × (n ≤ length marks.old) × (n ≤ length kinds.old) × (n ≤ length amounts.old) × (n ≤ length places.old) }
-    ensures { SentTo (map (ruled rule) (lent_first n starts durations marks)) marks kinds amounts places }
+    ensures { SentTo (map (ruled rule) (lent_first n starts durations (seen marks))) marks kinds amounts places }
 {
     let mut i = 0usize;
     while i < n {
@@ -131,8 +132,8 @@ pub(crate) fn tick(
 ) -> usize
     requires n_in_bounds { (n ≤ length starts.now) × (n ≤ length durations.now) × (n ≤ length marks.old) × (n ≤ length kinds.old) × (n ≤ length amounts.old) × (n ≤ length places.old) }
     requires n_le_most_entries { (n ≤ most_entries) × (n ≤ length replies.now) × (length (newly_done 0 (first_of n starts.now durations.now marks.old) (ticks prev next (first_of n starts.now durations.now marks.old) replies.now)) ≤ length list.old) }
-    ensures value { (result ≡ length (lent_done n prev next starts durations marks replies)) × (list.new ≡ over (lent_done n prev next starts durations marks replies) list.old) }
-    ensures sent_to { SentTo (lent_ticks n prev next starts durations marks replies) marks kinds amounts places }
+    ensures value { (result ≡ length (lent_done n prev next starts durations (seen marks) replies)) × (list.new ≡ over (lent_done n prev next starts durations (seen marks) replies) list.old) }
+    ensures sent_to { SentTo (lent_ticks n prev next starts durations (seen marks) replies) marks kinds amounts places }
 {
     let mut listed = 0usize;
     let mut i = 0usize;

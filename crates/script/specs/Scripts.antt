@@ -6,7 +6,7 @@ use Rattle.track.specs.declared.track.Track.{Track}
 use Rattle.track.specs.declared.track.Playhead.{Playhead}
 use Rattle.track.specs.Tracks.{Sent}
 use Rattle.track.specs.Calls.{Room, SetTimeScale, Play, Pause, Resume, Reset, Seek, SeekAbs, Update, TrackOut, track_silent, track_step}
-use Rattle.track.specs.Answers.{Lent, lent_track, left_track, lent_room}
+use Rattle.track.specs.Answers.{Lent, LentMut, seen, lent_track, left_track, lent_room}
 use Rattle.script.specs.declared.Outcome.{Outcome}
 
 -- What a call does to what plays, with these replies, a list of so many places and this room for rows: `track_step`, by which crate
@@ -32,7 +32,7 @@ pub record Made (o : TrackOut) (r : Outcome) (t : Track) (l₀ l k₀ k : List �
   pub rows : Sent o.rows k₀ k a₀ a p₀ p
 
 -- the call of this byte with this f32, made in place, answers r
-abbrev pub MadeInPlace : Playhead → Lent Float → Lent Float → Lent Bool → ℕ → Float → Lent ℕ → Outcome → Lent ℕ → Lent ℕ → Lent Float → Lent Float → Type 0
+abbrev pub MadeInPlace : Playhead → Lent Float → Lent Float → LentMut Bool → ℕ → Float → Lent ℕ → Outcome → LentMut ℕ → LentMut ℕ → LentMut Float → LentMut Float → Type 0
 MadeInPlace head starts durations marks byte x replies r list kinds amounts places =
-    Made (outcome_in replies.entry.now (length list.entry.now) (lent_room kinds amounts places) (lent_track head starts durations marks) byte x) r (left_track head r.clock starts durations marks)
+    Made (outcome_in replies.entry.now (length list.entry.now) (lent_room kinds amounts places) (lent_track head starts durations (seen marks)) byte x) r (left_track head r.clock starts durations marks)
     list.entry.now list.exit.now kinds.entry.now kinds.exit.now amounts.entry.now amounts.exit.now places.entry.now places.exit.now

@@ -1,5 +1,6 @@
 -- What a call made in place answers, and what it leaves in all that was lent to it. A contract cites one of the last four.
 use denote.Triple.Both.{Both}
+use denote.MutBor.{MutBor, as_bor}
 use Rattle.std.specs.Borrow.{Bor}
 use Rattle.std.specs.Prelude.{ℕ, min, ◌≡◌, Bool, true, false, not, cond, List, map, length, take, Float}
 use Rattle.steps.specs.declared.Entry.{Entry}
@@ -13,9 +14,17 @@ use Rattle.track.specs.Tracks.{live, with_only, Sent}
 use Rattle.track.specs.Columns.{track_of, with_clock_at}
 use Rattle.track.specs.Calls.{Room, room_of, TrackCall, Update, Preview, TrackOut, track_step}
 
--- a lent slice, as a contract has it: `now s.entry` is what it held when it was lent, `now s.exit` what it holds after the call
+-- a slice lent to be read, as a contract has it: `s.entry.now` is what it held when it was lent, `s.exit.now` what it holds after the call
 abbrev pub Lent : Type 0 → Type 0
 Lent A = Both (Bor (List A)) (Bor (List A))
+
+-- a slice lent to be written, likewise
+abbrev pub LentMut : Type 0 → Type 0
+LentMut A = Both (MutBor (List A)) (MutBor (List A))
+
+-- what it held and holds, as of a slice that is lent to be read
+abbrev pub seen : {A : Type 0} → LentMut A → Lent A
+seen s = record { entry = as_bor s.entry; exit = as_bor s.exit }
 
 -- what `update` answers: of the completed entries, how many it wrote to the lent list
 pub record Answer : Type 0 where
@@ -63,27 +72,27 @@ pub record ShowsBy (o : TrackOut) (n : ℕ) (k₀ k : List ℕ) (a₀ a p₀ p :
 abbrev pub lent_track : Playhead → Lent Float → Lent Float → Lent Bool → Track
 lent_track head starts durations marks = track_of head starts.entry.now durations.entry.now marks.entry.now
 
-abbrev pub left_track : Playhead → Clock → Lent Float → Lent Float → Lent Bool → Track
+abbrev pub left_track : Playhead → Clock → Lent Float → Lent Float → LentMut Bool → Track
 left_track head c starts durations marks = track_of (with_clock_at head c) starts.entry.now durations.entry.now marks.exit.now
 
 -- how many places the lent row slices have
-abbrev pub lent_room : Lent ℕ → Lent Float → Lent Float → Room
+abbrev pub lent_room : LentMut ℕ → LentMut Float → LentMut Float → Room
 lent_room kinds amounts places = room_of kinds.entry.now amounts.entry.now places.entry.now
 
 -- the call in place refuses by n and leaves the clock c
-abbrev pub MovesInPlace : Playhead → Lent Float → Lent Float → Lent Bool → (Room → TrackCall) → ℕ → Clock → Lent ℕ → Lent Float → Lent Float → Type 0
+abbrev pub MovesInPlace : Playhead → Lent Float → Lent Float → LentMut Bool → (Room → TrackCall) → ℕ → Clock → LentMut ℕ → LentMut Float → LentMut Float → Type 0
 MovesInPlace head starts durations marks call n c kinds amounts places =
-    MovesBy (track_step (lent_track head starts durations marks) (call (lent_room kinds amounts places))) n (left_track head c starts durations marks)
+    MovesBy (track_step (lent_track head starts durations (seen marks)) (call (lent_room kinds amounts places))) n (left_track head c starts durations marks)
     kinds.entry.now kinds.exit.now amounts.entry.now amounts.exit.now places.entry.now places.exit.now
 
 -- the update by dt in place answers x and leaves the clock c
-abbrev pub UpdatesInPlace : Playhead → Lent Float → Lent Float → Lent Bool → Float → Lent ℕ → Answer → Clock → Lent ℕ → Lent ℕ → Lent Float → Lent Float → Type 0
+abbrev pub UpdatesInPlace : Playhead → Lent Float → Lent Float → LentMut Bool → Float → Lent ℕ → Answer → Clock → LentMut ℕ → LentMut ℕ → LentMut Float → LentMut Float → Type 0
 UpdatesInPlace head starts durations marks dt replies x c list kinds amounts places =
-    UpdatesBy (track_step (lent_track head starts durations marks) (Update dt replies.entry.now (length list.entry.now) (lent_room kinds amounts places))) x (left_track head c starts durations marks)
+    UpdatesBy (track_step (lent_track head starts durations (seen marks)) (Update dt replies.entry.now (length list.entry.now) (lent_room kinds amounts places))) x (left_track head c starts durations marks)
     list.entry.now list.exit.now kinds.entry.now kinds.exit.now amounts.entry.now amounts.exit.now places.entry.now places.exit.now
 
 -- the preview in place of an update by dt refuses by n
-abbrev pub ShowsInPlace : Playhead → Lent Float → Lent Float → Lent Bool → Float → ℕ → Lent ℕ → Lent Float → Lent Float → Type 0
+abbrev pub ShowsInPlace : Playhead → Lent Float → Lent Float → Lent Bool → Float → ℕ → LentMut ℕ → LentMut Float → LentMut Float → Type 0
 ShowsInPlace head starts durations marks dt n kinds amounts places =
     ShowsBy (track_step (lent_track head starts durations marks) (Preview dt (lent_room kinds amounts places))) n
     kinds.entry.now kinds.exit.now amounts.entry.now amounts.exit.now places.entry.now places.exit.now
@@ -97,7 +106,7 @@ pub record LaysOut (k : Track) (es : List Entry) (h : Playhead) (s₀ s d₀ d :
   pub track : track_of h s d m ≡ with_only k es
 
 -- the live entries of the track k are laid out, as many as the shortest column takes
-abbrev pub LaidOut : Track → Playhead → Lent Float → Lent Float → Lent Bool → Type 0
+abbrev pub LaidOut : Track → Playhead → LentMut Float → LentMut Float → LentMut Bool → Type 0
 LaidOut k h starts durations marks =
     LaysOut k (take (min (length starts.entry.now) (min (length durations.entry.now) (length marks.entry.now))) (live k)) h
     starts.entry.now starts.exit.now durations.entry.now durations.exit.now marks.entry.now marks.exit.now

@@ -11,6 +11,7 @@ use Rattle.call_log.proofs.batch.Goals as goal
 pub returns : goal.returns
 returns c =
     let log = c.args.log in
-    let own = c.well-formed.0.1.1 in
+    let own = c.well_formed.0.1.1 in
     let long : length log.track.entries ≡ max_entries = search (unmapped, rules, own) in
-    runs_whole c.args.ended log c.args.bytes.now c.args.out.now _ _ _ _ _ c.run-ran.result (all_laid log.track long refl c.lay_out-head.ensures.track) c.run-ran.ensures c.gather-track.ensures (slice-aggregate-gather c)
+    let w = runs_whole c.args.ended log c.args.bytes.now c.args.out.now _ _ _ _ _ c.run-ran.result (all_laid log.track long refl c.lay_out-head.ensures.track) c.run-ran.ensures c.gather-track.ensures (search rules) in
+    record { value = w.0; out_after = w.1 }

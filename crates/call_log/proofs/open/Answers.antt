@@ -15,7 +15,7 @@ returns-then-is_cut c =
     let s = c.args.input.now in
     let n = number_cut s (sym c.is_cut.ensures ∙ c.if-is_cut.true) in
     let o = open-refused s (λ z. omega arith) in
-    (rw (o.0, o.1, n) c.refuse.ensures.value, rw (o.0, n) c.refuse.ensures.line_after)
+    record { value = rw (o.0, o.1, n) c.refuse.ensures.value; line_after = rw (o.0, n) c.refuse.ensures.line_after }
 
 pub overflow_add-end : goal.overflow_add-end
 overflow_add-end c =
@@ -35,7 +35,7 @@ returns-then-reading-ne-ACCEPTED c =
     let r : c.read-reading.result ≡ reading_of (sheet_in s) = c.read-reading.ensures ∙ rw p in
     let n : c.read-reading.result.refusal ≡ sheet_number s = rw r (sym (number-whole s e)) in
     let o = open-refused s (λ z. c.if-reading-ne-ACCEPTED.true (n ∙ z)) in
-    (rw (o.0, o.1, ← n) c.refuse-then-reading-ne-ACCEPTED.ensures.value, rw (o.0, ← n) c.refuse-then-reading-ne-ACCEPTED.ensures.line_after)
+    record { value = rw (o.0, o.1, ← n) c.refuse-then-reading-ne-ACCEPTED.ensures.value; line_after = rw (o.0, ← n) c.refuse-then-reading-ne-ACCEPTED.ensures.line_after }
 
 pub returns : goal.returns
 returns c =
@@ -47,4 +47,4 @@ returns c =
     let o = open-accepted s (sym n ∙ c.if-reading-ne-ACCEPTED.false) in
     let k : track_in s ≡ c.read-reading.result.timeline.track = ap (λ (q : Reading). q.timeline.track) (sym r) in
     let w = wrote_as (ap (λ (t : Track). shown (sheet_line t)) k) c.accepted-len.ensures in
-    (rw (o.0, o.1, wrote_all w, k, sym n ∙ c.if-reading-ne-ACCEPTED.false), rw o.0 w.bytes)
+    record { value = rw (o.0, o.1, wrote_all w, k, sym n ∙ c.if-reading-ne-ACCEPTED.false); line_after = rw o.0 w.bytes }

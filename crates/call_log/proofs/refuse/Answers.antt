@@ -3,4 +3,4 @@ use Rattle.call_log.proofs.Writing.{wrote_all}
 use Rattle.call_log.proofs.refuse.Goals as goal
 
 pub returns : goal.returns
-returns c = (rw (wrote_all c.refused-len.ensures, c.new-track.ensures), c.refused-len.ensures.bytes)
+returns c = record { value = rw (wrote_all c.refused-len.ensures, c.new-track.ensures); line_after = c.refused-len.ensures.bytes }

@@ -40,8 +40,8 @@ pub overflow_add-len : goal.overflow_add-len
 overflow_add-len c =
     let loop = c.loop-used in
     let few = c.next-logged.ensures.few in
-    let room : line_size ≤ length loop.out - loop.len = leb-true _ _ c.if-out-len-ge-LINE.true in
-    omega (arith, few, room, loop.invariant.2, c.well-formed)
+    let room : line_size ≤ length loop.out - loop.len = c.if-out-len-ge-LINE.true in
+    omega (arith, few, room, loop.invariant.2, c.well_formed)
 
 pub loop-used-smaller : goal.loop-used-smaller
 loop-used-smaller c =
@@ -63,7 +63,7 @@ loop-used-preserved c =
     let behind = c.behind-used.ensures in
     let logged = rw (part-rest loop.used args.bytes.now) at next.ensures in
     let few = logged.few in
-    let left : line_size ≤ length loop.out - loop.len = leb-true _ _ c.if-out-len-ge-LINE.true in
+    let left : line_size ≤ length loop.out - loop.len = c.if-out-len-ge-LINE.true in
     let same = loop.invariant.2 in
     let most : loop.len + next.result.len ≤ length args.out.now = omega (arith, left, few, same) in
     let there : least_bytes args.ended ≤ length rest = omega (arith, least, c.loop-used-test.true, size) in

@@ -12,9 +12,9 @@ apply-requires c =
 pub returns-in-Within : goal.returns-in-Within
 returns-in-Within c =
     let g = c.args in
-    sync-told g.head g.starts.now g.durations.now g.marks.now g.n c.requires.0 g.base g.next c.requires.4 c.between-counted.ensures c.counted-1.given.1 c.reach_of-to.ensures c.local_time.ensures c.reached.ensures.0 c.reached.ensures.1 c.apply.ensures
+    sync-told g.head g.starts.now g.durations.now g.marks.now g.n c.requires.0 g.base g.next c.requires.4 c.between-counted.ensures c.in-Within.is c.reach_of-to.ensures c.local_time.ensures c.reached.ensures.0 c.reached.ensures.1 c.apply.ensures
 
 pub returns-in-Over : goal.returns-in-Over
 returns-in-Over c =
     let g = c.args in
-    sync-over g.head g.starts.now g.durations.now g.marks.now g.n c.requires.0 g.base g.next c.requires.4 c.between-counted.ensures c.enum_told-1.given.1 c.refused.ensures.0 c.refused.ensures.1
+    sync-over g.head g.starts.now g.durations.now g.marks.now g.n c.requires.0 g.base g.next c.requires.4 c.between-counted.ensures c.in-Over.is c.refused.ensures.0 c.refused.ensures.1

@@ -39,7 +39,7 @@ tick-requires c =
     let es = first_of g.n ss ds ms in
     let long : length es ≡ g.n = length-first g.n ss ds ms wide.0 wide.1 wide.2 in
     let most = newly_most 0 es (ticks c.min-from.result c.reach_of-to.result.elapsed es (replicate most_entries 1)) in
-    ((wide.0, wide.1, wide.2, pre.1, pre.2, pre.3), (wide.3, wide.3, omega (arith, long, most, wide.3)))
+    record { n_in_bounds = (wide.0, wide.1, wide.2, pre.1, pre.2, pre.3); n_le_most_entries = (wide.3, wide.3, omega (arith, long, most, wide.3)) }
 
 pub returns-then-both : goal.returns-then-both
 unfolding advanced_to

@@ -1,7 +1,6 @@
 -- `update`: refused, not going on, ticked in Once, or looped.
 use mathlib.Core.Path.{◌≡◌, refl, sym, ap, ◌∙◌}
 use mathlib.Core.Bool.{true, false}
-use borrow.Author.Tests.{not-true, not-false}
 use Rattle.tween.specs.LoopMode.{is_once}
 use Rattle.steps.specs.declared.Rule.TheVariants.{Keep}
 use Rattle.clock.specs.declared.Clock.{Clock}
@@ -58,7 +57,7 @@ returns-then-not-advances c =
     let all = counted g.head ss ds ms c.entries_in-n.ensures in
     let own = clock-own g.head ss ds ms in
     let eb = based g.head ss ds ms n all c.base-base.ensures in
-    let on : advances t.clock c.base-base.result ≡ false = ap (λ (d : Clock). advances d c.base-base.result) own ∙ sym c.advances.ensures ∙ not-true _ c.if-not-advances.true in
+    let on : advances t.clock c.base-base.result ≡ false = ap (λ (d : Clock). advances d c.base-base.result) own ∙ sym c.advances.ensures ∙ c.if-not-advances.true in
     let x = c.stayed in
     let put = applied g.head ss ds ms n all x.result.clock _ _ _ _ _ _ _ Keep c.apply.ensures in
     goes_on t g.dt g.replies.now g.list.now g.kinds.now g.amounts.now g.places.now all (sym c.rows_short.ensures ∙ c.if-rows_short.false) (sym c.replies_bad.ensures ∙ c.if-replies_bad.false) (stays t g.dt g.replies.now eb on)
@@ -85,7 +84,7 @@ returns-then-is_once c =
     let all = counted g.head ss ds ms c.entries_in-n.ensures in
     let own = clock-own g.head ss ds ms in
     let eb = based g.head ss ds ms n all c.base-base.ensures in
-    let on : advances t.clock c.base-base.result ≡ true = ap (λ (d : Clock). advances d c.base-base.result) own ∙ sym c.advances.ensures ∙ not-false _ c.if-not-advances.false in
+    let on : advances t.clock c.base-base.result ≡ true = ap (λ (d : Clock). advances d c.base-base.result) own ∙ sym c.advances.ensures ∙ c.if-not-advances.false in
     let next = c.next_elapsed-next.ensures ∙ ap (λ (d : Clock). next_elapsed d g.dt) (sym own) in
     let once : is_once t.looping ≡ true = ap is_once (mode-own g.head ss ds ms) ∙ sym c.is_once.ensures ∙ c.if-is_once.true in
     goes_on t g.dt g.replies.now g.list.now g.kinds.now g.amounts.now g.places.now all (sym c.rows_short.ensures ∙ c.if-rows_short.false) (sym c.replies_bad.ensures ∙ c.if-replies_bad.false)
@@ -113,7 +112,7 @@ returns c =
     let all = counted g.head ss ds ms c.entries_in-n.ensures in
     let own = clock-own g.head ss ds ms in
     let eb = based g.head ss ds ms n all c.base-base.ensures in
-    let on : advances t.clock c.base-base.result ≡ true = ap (λ (d : Clock). advances d c.base-base.result) own ∙ sym c.advances.ensures ∙ not-false _ c.if-not-advances.false in
+    let on : advances t.clock c.base-base.result ≡ true = ap (λ (d : Clock). advances d c.base-base.result) own ∙ sym c.advances.ensures ∙ c.if-not-advances.false in
     let next = c.next_elapsed-next.ensures ∙ ap (λ (d : Clock). next_elapsed d g.dt) (sym own) in
     let loops : is_once t.looping ≡ false = ap is_once (mode-own g.head ss ds ms) ∙ sym c.is_once.ensures ∙ c.if-is_once.false in
     goes_on t g.dt g.replies.now g.list.now g.kinds.now g.amounts.now g.places.now all (sym c.rows_short.ensures ∙ c.if-rows_short.false) (sym c.replies_bad.ensures ∙ c.if-replies_bad.false)

@@ -2,7 +2,6 @@ use Prim.Native.Nat.{ℕ, ◌+◌, ◌<◌}
 use mathlib.Core.Path.{◌≡◌, sym, ap, ◌∙◌}
 use mathlib.Core.Bool.{not, ◌&&◌}
 use mathlib.Core.List.{List}
-use mathlib.Core.Logic.{⊎_elim}
 use native.Mathlib.Omega.{arith}
 use lib.ListN.{length, get_or}
 use Rattle.steps.specs.declared.Entry.{Entry}
@@ -12,6 +11,7 @@ use Rattle.track.proofs.Marks.{no_entry, no_step}
 use Rattle.track.proofs.Ticks.{length-ticks, turn_at, rest-start, rest_end, rest-turn}
 use Rattle.track.specs.Columns.{first_of}
 use Rattle.track.proofs.Columns.{length-first, first_at}
+use Rattle.player.proofs.entries.count_done.Goals.{then-newly_done, else-newly_done}
 use Rattle.player.proofs.entries.count_done.Goals as goal
 
 pub loop-i-init : goal.loop-i-init
@@ -34,10 +34,10 @@ loop-i-preserved c =
     let step = turn_at g.prev g.next es rs i h (omega arith) _ _ here s.ensures in
     let newly : d.result ≡ (not (get_or es i no_entry).done && (get_or ss i no_step).done) = d.ensures ∙ ap (λ (x : Entry). not x.done && s.result.done) here ∙ ap (λ (y : Stepped). not (get_or es i no_entry).done && y.done) step in
     let turn = rest-turn es ss (length-ticks g.prev g.next es rs) i d.result h newly in
-    ⊎_elim
-    (λ p. let t = rw p.0.taken at turn in (omega arith, v.1, v.2, v.3, v.4, omega arith, omega (arith, ap length t)))
-    (λ p. let t = rw p.0.left at turn in (omega arith, v.1, v.2, v.3, v.4, omega arith, omega (arith, ap length t)))
-    c.if-newly_done.branch
+    elim c.if-newly_done.branch [
+      then-newly_done w ↦ let t = rw w.if-newly_done.true at turn in (omega arith, v.1, v.2, v.3, v.4, omega arith, omega (arith, ap length t))
+      | else-newly_done w ↦ let t = rw w.if-newly_done.false at turn in (omega arith, v.1, v.2, v.3, v.4, omega arith, omega (arith, ap length t))
+    ]
 
 pub returns : goal.returns
 returns c =

@@ -67,4 +67,4 @@ returns c =
     let long : length es ≡ g.n = length-first g.n g.starts.now g.durations.now g.marks.now v.2.room-s v.2.room-d v.2.room-m in
     let w = all-kept _ _ _ _ _ _ _ _ _ _ _ _ _ v.2 c.loop-i-test.false in
     let l = all_listed _ _ _ _ _ _ v.3 (omega (arith, long, c.loop-i-test.false)) in
-    ((l.0, l.1), w)
+    record { value = (l.0, l.1); sent_to = w }

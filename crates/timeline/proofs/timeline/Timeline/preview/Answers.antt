@@ -11,6 +11,6 @@ use Rattle.timeline.proofs.timeline.Timeline.preview.Goals as goal
 pub returns : goal.returns
 returns c =
     let t = c.args.self in
-    let own = c.well-formed.0.0 in
+    let own = c.well_formed.0.0 in
     let long : length t.track.entries ≡ max_entries = search (unmapped, rules) in
     door-shows t long (Preview _ _) refl c.lay_out-head.ensures _ _ _ _ _ _ c.preview.ensures

@@ -4,20 +4,20 @@ use Rattle.timeline.proofs.timeline.Timeline.resolve_start.Goals as goal
 
 pub returns-in-Absolute : goal.returns-in-Absolute
 unfolding resolve_start
-returns-in-Absolute c = rw c.at-1.given.1 c.max.ensures
+returns-in-Absolute c = rw c.in-Absolute.is c.max.ensures
 
 pub returns-in-Start : goal.returns-in-Start
 unfolding resolve_start
-returns-in-Start c = rw c.enum_told-1.given.1
+returns-in-Start c = rw c.in-Start.is
 
 pub returns-in-End : goal.returns-in-End
 unfolding resolve_start
-returns-in-End c = rw c.enum_told-in-End-1.given.1 c.duration.ensures
+returns-in-End c = rw c.in-End.is c.duration.ensures
 
 pub returns-in-Label : goal.returns-in-Label
 unfolding resolve_start
-returns-in-Label c = rw c.at-in-Label-1.given.1 c.like_start.ensures
+returns-in-Label c = rw c.in-Label.is c.like_start.ensures
 
 pub returns-in-Offset : goal.returns-in-Offset
 unfolding resolve_start
-returns-in-Offset c = rw (c.at-in-Offset-1.given.1, ← c.duration-in-Offset.ensures) c.max-in-Offset.ensures
+returns-in-Offset c = rw (c.in-Offset.is, ← c.duration-in-Offset.ensures) c.max-in-Offset.ensures

@@ -17,20 +17,6 @@ returns-then-i-entry_count c =
     let h : length (live g.self.track) ≤ g.i = omega (arith, c.entry_count.ensures) in
     sym (ap (λ (e : Entry). e.start) (get_or-eq_default (live g.self.track) blank h))
 
--- an entry that counts is in the array
-
-within : (c : tie.After-entries) → c.before.before.before.before.args.i < 64
-within c =
-    let k = c.before.before.before.before.args.self.track in
-    let h : length k.entries ≡ 64 = search (unmapped, rules) in
-    omega (arith, length-take k.count k.entries, c.before.before.entry-count.ensures)
-
-pub offset_bounds-entries-i : goal.offset_bounds-entries-i
-offset_bounds-entries-i c = omega (arith, within c)
-
-pub bounds-entries-i : goal.bounds-entries-i
-bounds-entries-i c = omega (arith, within c)
-
 pub returns : goal.returns
 returns c =
     let g = c.args in

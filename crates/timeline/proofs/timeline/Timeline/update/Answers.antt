@@ -11,6 +11,6 @@ use Rattle.timeline.proofs.timeline.Timeline.update.Goals as goal
 pub returns : goal.returns
 returns c =
     let t = c.args.self in
-    let own = c.well-formed.0.0 in
+    let own = c.well_formed.0.0 in
     let long : length t.track.entries ≡ max_entries = search (unmapped, rules) in
     door-updates t long (Update _ _ _ _) refl c.lay_out-head.ensures _ _ _ _ _ _ _ _ _ _ c.update-u.ensures c.left-timeline.ensures

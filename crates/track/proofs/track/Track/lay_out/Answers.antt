@@ -1,26 +1,20 @@
 -- `lay_out` writes the live entries over the columns, as many as these take.
 use Prim.Native.Nat.{ℕ, ◌<◌, min}
 use mathlib.Core.Path.{◌≡◌, sym, ap, ◌∙◌}
-use mathlib.Core.Bool.{Bool, false}
-use mathlib.Core.List.{List}
+use mathlib.Core.Bool.{false}
 use native.Mathlib.Omega.{arith}
 use borrow.Author.Rules.{rules}
-use lib.ListN.{length, take, length-take}
-use lib.Ieee.{Float, nan}
+use lib.ListN.{length, length-take}
+use lib.Ieee.{nan}
 use Rattle.steps.specs.declared.Entry.{Entry}
 use Rattle.steps.specs.Times.{max_entries}
 use Rattle.steps.proofs.Lists.{unmapped, part_at}
-use Rattle.track.specs.declared.track.Track.{Track}
 use Rattle.track.specs.declared.track.Playhead.{Playhead}
 use Rattle.track.specs.Tracks.{live}
 use Rattle.track.proofs.Marks.{no_entry}
 use Rattle.track.proofs.Laid.{column-none, column-more, column-all, laid}
+use Rattle.track.proofs.track.Track.lay_out.Invariants.{taken}
 use Rattle.track.proofs.track.Track.lay_out.Goals as goal
-
--- the entries that the columns take
-
-abbrev taken : Track → List Float → List Float → List Bool → List Entry
-taken k ss ds ms = take (min (length ss) (min (length ds) (length ms))) (live k)
 
 pub loop-i-init : goal.loop-i-init
 loop-i-init c =
