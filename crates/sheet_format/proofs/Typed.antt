@@ -8,10 +8,8 @@ use mir.Val.{Val}
 use denote.Laws.{Is}
 use denote.Array.{each}
 use denote.Shadow.{shadow}
-use denote.Struct.Field.{u8-field}
 use Rattle.steps.specs.Times.{max_entries}
 use Rattle.label.specs.Label.{max_label}
-use Rattle.steps.proofs.Lists.{unmapped}
 use Rattle.tween.specs.declared.loop_mode.Loop.{Loop}
 use Rattle.tween.specs.declared.loop_mode.Loop.TheVariants.{Once, Times, Forever, PingPong, PingPongTimes}
 use Rattle.tween.specs.contracts.loop_mode.Loop as L
@@ -55,7 +53,7 @@ placement_typed (Offset s) vs g = g.1.1.1.1.0.1
 
 item_typed : (x : Item) (vs : List Val) → Is I.the_row x vs → TypedItem x
 item_typed x vs g =
-    record { duration = g.1.1.0.1; seconds = placement_typed x.at _ g.1.1.1.0; bytes = unmapped u8-field.into x.label.bytes max_label g.1.1.1.1.0.1.1.0.1.0.1 }
+    record { duration = g.1.1.0.1; seconds = placement_typed x.at _ g.1.1.1.0; bytes = g.1.1.1.1.0.1.1.0.1.0.1 }
 
 pub blank-typed : TypedItem blank_item
 blank-typed = record { duration = lit< tt; seconds = lit< tt; bytes = refl }
@@ -72,6 +70,6 @@ typed d vs g =
     record {
       number = loop_typed d.looping _ g.1.1.1.0;
       scale = g.1.1.1.1.0.1;
-      slots = unmapped (I.the_field).into d.items max_entries items.1.0.1;
+      slots = items.1.0.1;
       each = items_typed d.items items.0 items.1.1;
     }
