@@ -1,7 +1,7 @@
 -- The numbers of a description fit their types, as those of every value of the struct do: what owning one tells.
 use Prim.Native.Nat.{ℕ, zero, suc, ◌^◌, ◌<◌}
 use mathlib.Core.Path.{◌≡◌, refl}
-use mathlib.Core.List.{List, [], ◌∷◌, map}
+use mathlib.Core.List.{List, [], ◌∷◌}
 use lib.Dec.{lit<}
 use lib.ListN.{length, get_or}
 use mir.Val.{Val}
@@ -58,7 +58,7 @@ item_typed x vs g =
 pub blank-typed : TypedItem blank_item
 blank-typed = record { duration = lit< tt; seconds = lit< tt; bytes = refl }
 
-items_typed : (xs : List Item) (us : List Val) → shadow (each (I.the_field).row.Denot (I.the_field).row.own_val (map (I.the_field).into xs) us) → (i : ℕ) → TypedItem (get_or xs i blank_item)
+items_typed : (xs : List Item) (us : List Val) → shadow (each (I.the_row).Denot (I.the_row).own_val xs us) → (i : ℕ) → TypedItem (get_or xs i blank_item)
 items_typed [] us g i = blank-typed
 items_typed (x ∷ xs) [] g i = absurd g
 items_typed (x ∷ xs) (u ∷ us) g zero = item_typed x (u ∷ []) g.0

@@ -10,6 +10,8 @@ use Rattle.sheet.specs.Build.{calls_of}
 use Rattle.sheet.proofs.Adds.{take-cut, calls-more, calls-end}
 use Rattle.sheet.proofs.build.Goals as goal
 
+-- h: the array has all its places
+
 pub loop-i-init : goal.loop-i-init
 loop-i-init c =
     let h : length c.args.described.items ≡ max_entries = search (unmapped, rules) in
