@@ -62,5 +62,5 @@ returns c =
     let l = length-sheet d (length-items d h g.few) in
     let n : c.labels_at.result + c.texts_len.result ≡ length (sheet_of d) = omega (arith, c.labels_at.ensures, c.texts_len.ensures.0) in
     let w = write-whole d (length c.args.room.now) z (omega arith) in
-    let back = reads_back d (typed d _ c.well-formed.0) z (drop (length (sheet_of d)) c.args.room.now) in
+    let back = reads_back d (typed d _ c.well_formed.0) z (drop (length (sheet_of d)) c.args.room.now) in
     record { value = simp (w.0, w.1, n); room_after = simp (w.1, c.put_sheet.ensures, zero-add); reads_back = rw (n, c.put_sheet.ensures, zero-add) back }
