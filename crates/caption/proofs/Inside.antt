@@ -23,7 +23,7 @@ match_inside list label len offset (suc k) pairs e f =
     let words = front any_length 15 15 len (offset + length_in pairs) (2 * k) (drop pair_size pairs) code.rest in
     let here : offset_in (drop pair_size pairs) + length_in (drop pair_size pairs) ≤ len = omega (arith, words.starts, ends any_length 15 15 len _ (2 * k) _ words.rest) in
     let rest : pairs_in_turn any_length bad_caption bad_caption len (offset + length_in pairs + length_in (drop pair_size pairs)) (2 * k) (drop code_size pairs) ≡ accepted = rw (← drop-drop pair_size pair_size pairs) words.rest in
-    chosen (same_text (part_of list pairs) label) here (match_inside list label len _ k (drop code_size pairs) rest) f
+    chosen (same_text (part_of list pairs) label) here (match_inside list label len (offset + length_in pairs + length_in (drop pair_size pairs)) k (drop code_size pairs) rest) f
   where
     chosen : (b : Bool) → offset_in (drop pair_size pairs) + length_in (drop pair_size pairs) ≤ len
         → ((first_match list label k (drop code_size pairs)).found ≡ true → (first_match list label k (drop code_size pairs)).words.offset + (first_match list label k (drop code_size pairs)).words.len ≤ len)

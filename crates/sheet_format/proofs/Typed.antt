@@ -1,17 +1,15 @@
 -- The numbers of a description fit their types, as those of every value of the struct do: what owning one tells.
 use Prim.Native.Nat.{ℕ, zero, suc, ◌^◌, ◌<◌}
 use mathlib.Core.Path.{◌≡◌, refl}
-use mathlib.Core.List.{List, [], ◌∷◌, map}
+use mathlib.Core.List.{List, [], ◌∷◌}
 use lib.Dec.{lit<}
 use lib.ListN.{length, get_or}
 use mir.Val.{Val}
 use denote.Laws.{Is}
 use denote.Array.{each}
 use denote.Shadow.{shadow}
-use denote.Struct.Field.{u8-field}
 use Rattle.steps.specs.Times.{max_entries}
 use Rattle.label.specs.Label.{max_label}
-use Rattle.steps.proofs.Lists.{unmapped}
 use Rattle.tween.specs.declared.loop_mode.Loop.{Loop}
 use Rattle.tween.specs.declared.loop_mode.Loop.TheVariants.{Once, Times, Forever, PingPong, PingPongTimes}
 use Rattle.tween.specs.contracts.loop_mode.Loop as L
@@ -55,12 +53,12 @@ placement_typed (Offset s) vs g = g.1.1.1.1.0.1
 
 item_typed : (x : Item) (vs : List Val) → Is I.the_row x vs → TypedItem x
 item_typed x vs g =
-    record { duration = g.1.1.0.1; seconds = placement_typed x.at _ g.1.1.1.0; bytes = unmapped u8-field.into x.label.bytes max_label g.1.1.1.1.0.1.1.0.1.0.1 }
+    record { duration = g.1.1.0.1; seconds = placement_typed x.at _ g.1.1.1.0; bytes = g.1.1.1.1.0.1.1.0.1.0.1 }
 
 pub blank-typed : TypedItem blank_item
 blank-typed = record { duration = lit< tt; seconds = lit< tt; bytes = refl }
 
-items_typed : (xs : List Item) (us : List Val) → shadow (each (I.the_field).row.Denot (I.the_field).row.own_val (map (I.the_field).into xs) us) → (i : ℕ) → TypedItem (get_or xs i blank_item)
+items_typed : (xs : List Item) (us : List Val) → shadow (each (I.the_row).Denot (I.the_row).own_val xs us) → (i : ℕ) → TypedItem (get_or xs i blank_item)
 items_typed [] us g i = blank-typed
 items_typed (x ∷ xs) [] g i = absurd g
 items_typed (x ∷ xs) (u ∷ us) g zero = item_typed x (u ∷ []) g.0
@@ -72,6 +70,6 @@ typed d vs g =
     record {
       number = loop_typed d.looping _ g.1.1.1.0;
       scale = g.1.1.1.1.0.1;
-      slots = unmapped (I.the_field).into d.items max_entries items.1.0.1;
+      slots = items.1.0.1;
       each = items_typed d.items items.0 items.1.1;
     }

@@ -10,12 +10,11 @@ use Rattle.sheet.specs.Build.{calls_of}
 use Rattle.sheet.proofs.Adds.{take-cut, calls-more, calls-end}
 use Rattle.sheet.proofs.build.Goals as goal
 
-sized : (c : tie.After-items invariant-loop decreases-loop) → length c.before.before.args.described.items ≡ max_entries
-sized c = search (unmapped, rules)
+-- h: the array has all its places
 
 pub loop-i-init : goal.loop-i-init
 loop-i-init c =
-    let h = sized c in
+    let h : length c.args.described.items ≡ max_entries = search (unmapped, rules) in
     let m = c.least-n.ensures in
     (omega arith, omega arith, omega arith, refl)
 
@@ -27,7 +26,7 @@ unfolding calls_of after
 returns c =
     let d = c.args.described in
     let n = c.least-n.result in
-    let h = sized c in
+    let h : length c.args.described.items ≡ max_entries = search (unmapped, rules) in
     let m = c.least-n.ensures in
     let live = take-cut d.count n d.items (omega arith) in
     sym (calls-end n c.loop-i.i d.items c.loop-i.timeline (omega arith)) ∙ c.loop-i.invariant.3 ∙ rw (live, c.set_time_scale-timeline.ensures, c.looping.ensures, c.new.ensures, c.from_bits-scale.ensures)

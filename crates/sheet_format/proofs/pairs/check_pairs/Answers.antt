@@ -6,7 +6,7 @@ use mathlib.Core.List.{List}
 use Prim.Native.Nat.{ℕ, ◌-◌}
 use native.Mathlib.Omega.{arith}
 use borrow.Author.Rules.{rules}
-use borrow.Author.Tests.{not-true, not-false, eq-eqb, ne_eqb}
+use borrow.Author.Tests.{eq-eqb, ne_eqb}
 use Rattle.words.specs.declared.Pair.{Pair}
 use Rattle.words.specs.Pairs.{pair_in}
 use Rattle.sheet_rules.specs.Rules.{pair_fits}
@@ -32,18 +32,18 @@ tests offset p pairs b e f = sym (f ∙ ap (λ (q : Pair). pair_fits offset q.of
 pub returns-then-not-pair_fits : goal.returns-then-not-pair_fits
 returns-then-not-pair_fits c =
     let n = c.args.n in
-    let bad = tests _ _ _ _ c.pair_at-pair.ensures c.pair_fits.ensures ∙ not-true c.pair_fits.result c.if-not-pair_fits.true in
+    let bad = tests _ _ _ _ c.pair_at-pair.ensures c.pair_fits.ensures ∙ c.if-not-pair_fits.true in
     sym (c.loop-i.invariant.3 ∙ pairs-bad n c.loop-i.i _ _ c.loop-i.at _ (omega arith) bad)
 
 pub overflow_add-offset : goal.overflow_add-offset
 overflow_add-offset c =
-    let good = tests _ _ _ _ c.pair_at-pair.ensures c.pair_fits.ensures ∙ not-false c.pair_fits.result c.if-not-pair_fits.false in
+    let good = tests _ _ _ _ c.pair_at-pair.ensures c.pair_fits.ensures ∙ c.if-not-pair_fits.false in
     omega (arith, ap (λ (p : Pair). p.len) c.pair_at-pair.ensures, (pair-good _ _ good).1)
 
 pub loop-i-preserved : goal.loop-i-preserved
 loop-i-preserved c =
     let n = c.args.n in
-    let good = tests _ _ _ _ c.pair_at-pair.ensures c.pair_fits.ensures ∙ not-false c.pair_fits.result c.if-not-pair_fits.false in
+    let good = tests _ _ _ _ c.pair_at-pair.ensures c.pair_fits.ensures ∙ c.if-not-pair_fits.false in
     let len = ap (λ (p : Pair). p.len) c.pair_at-pair.ensures in (
       omega arith,
       omega arith,

@@ -1,6 +1,6 @@
 -- The checks of `describe_number`, in turn.
 use mathlib.Core.Path.{sym}
-use borrow.Author.Tests.{le-ltb, lt-ltb, not-true, not-false}
+use borrow.Author.Tests.{le-ltb, lt-ltb}
 use Rattle.sheet_format.specs.Write.{describe_number}
 use Rattle.sheet_format.proofs.writing.description_refusal.Goals as goal
 
@@ -10,7 +10,7 @@ returns-then-n-gt-MAX_ENTRIES c = simp (lt-ltb _ _ c.if-n-gt-MAX_ENTRIES.true)
 
 pub returns-then-not-labels_good : goal.returns-then-not-labels_good
 unfolding describe_number
-returns-then-not-labels_good c = simp (le-ltb _ _ c.if-n-gt-MAX_ENTRIES.false, sym c.labels_good.ensures, not-true c.labels_good.result c.if-not-labels_good.true)
+returns-then-not-labels_good c = simp (le-ltb _ _ c.if-n-gt-MAX_ENTRIES.false, sym c.labels_good.ensures, c.if-not-labels_good.true)
 
 pub returns-then-not-targets_good : goal.returns-then-not-targets_good
 unfolding describe_number
@@ -18,9 +18,9 @@ returns-then-not-targets_good c =
     simp (
       le-ltb _ _ c.if-n-gt-MAX_ENTRIES.false,
       sym c.labels_good.ensures,
-      not-false c.labels_good.result c.if-not-labels_good.false,
+      c.if-not-labels_good.false,
       sym c.targets_good.ensures,
-      not-true c.targets_good.result c.if-not-targets_good.true,
+      c.if-not-targets_good.true,
     )
 
 pub returns : goal.returns
@@ -29,7 +29,7 @@ returns c =
     simp (
       le-ltb _ _ c.if-n-gt-MAX_ENTRIES.false,
       sym c.labels_good.ensures,
-      not-false c.labels_good.result c.if-not-labels_good.false,
+      c.if-not-labels_good.false,
       sym c.targets_good.ensures,
-      not-false c.targets_good.result c.if-not-targets_good.false,
+      c.if-not-targets_good.false,
     )

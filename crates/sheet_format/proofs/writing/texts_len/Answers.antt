@@ -10,7 +10,7 @@ use Rattle.sheet_format.proofs.writing.texts_len.Goals as goal
 
 pub loop-i-init : goal.loop-i-init
 loop-i-init c =
-    let h : length c.args.t1 ≡ max_entries = search (unmapped, rules) in
+    let h : length c.args.items ≡ max_entries = search (unmapped, rules) in
     (omega arith, omega arith, omega arith, omega arith, omega arith)
 
 pub overflow_add-len : goal.overflow_add-len
@@ -19,10 +19,10 @@ overflow_add-len c = omega (arith, c.text_len-len.ensures.3)
 pub loop-i-preserved : goal.loop-i-preserved
 loop-i-preserved c =
     let n = c.args.n in
-    let count = texts-count n c.loop-i.i c.args.t1 _ _ c.text_len-len.ensures.2 (omega arith) c.loop-i.invariant.1 in
+    let count = texts-count n c.loop-i.i c.args.items _ _ c.text_len-len.ensures.2 (omega arith) c.loop-i.invariant.1 in
     (omega arith, c.loop-i.invariant.1, c.loop-i.invariant.2, omega (arith, c.text_len-len.ensures.3), omega arith)
 
 pub returns : goal.returns
 returns c =
-    let none = rw (live_end c.args.n c.loop-i.i c.args.t1 (omega arith), texts-none) at c.loop-i.invariant.4 in
+    let none = rw (live_end c.args.n c.loop-i.i c.args.items (omega arith), texts-none) at c.loop-i.invariant.4 in
     (omega arith, omega arith)

@@ -17,7 +17,7 @@ use Rattle.sheet_format.proofs.writing.write.Goals as goal
 pub returns-then-refusal-ne-ACCEPTED : goal.returns-then-refusal-ne-ACCEPTED
 returns-then-refusal-ne-ACCEPTED c =
     let w = write-refused c.args.described (length c.args.room.now) _ c.description_refusal-refusal.ensures (ne_eqb _ _ c.if-refusal-ne-ACCEPTED.true) in
-    (simp (w.0, w.1), (simp w.1, λ e. absurd (c.if-refusal-ne-ACCEPTED.true e)))
+    record { value = simp (w.0, w.1); room_after = simp w.1; reads_back = λ e. absurd (c.if-refusal-ne-ACCEPTED.true e) }
 
 pub labels_at-requires : goal.labels_at-requires
 labels_at-requires c =
@@ -42,7 +42,7 @@ returns-then-len-room c =
     let g = described d z in
     let l = length-sheet d (length-items d h g.few) in
     let w = write-short d (length c.args.room.now) z (omega (arith, c.labels_at.ensures, c.texts_len.ensures.0)) in
-    (simp (w.0, w.1), (simp w.1, λ e. absurd (omega (arith, e))))
+    record { value = simp (w.0, w.1); room_after = simp w.1; reads_back = λ e. absurd (omega (arith, e)) }
 
 pub put_sheet-requires : goal.put_sheet-requires
 put_sheet-requires c =
@@ -62,5 +62,5 @@ returns c =
     let l = length-sheet d (length-items d h g.few) in
     let n : c.labels_at.result + c.texts_len.result ≡ length (sheet_of d) = omega (arith, c.labels_at.ensures, c.texts_len.ensures.0) in
     let w = write-whole d (length c.args.room.now) z (omega arith) in
-    let back = reads_back d (typed d _ c.well-formed.0) z (drop (length (sheet_of d)) c.args.room.now) in
-    (simp (w.0, w.1, n), (simp (w.1, c.put_sheet.ensures, zero-add), rw (n, c.put_sheet.ensures, zero-add) back))
+    let back = reads_back d (typed d _ c.well_formed.0) z (drop (length (sheet_of d)) c.args.room.now) in
+    record { value = simp (w.0, w.1, n); room_after = simp (w.1, c.put_sheet.ensures, zero-add); reads_back = rw (n, c.put_sheet.ensures, zero-add) back }
