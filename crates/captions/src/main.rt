@@ -2,7 +2,7 @@
 // line for each entry. Where the text is not whole, standard error has a line that says why.
 #![tactic(auto)]
 
-ghost use Rattle.std.specs.Prelude.{◌≤◌};
+ghost use Rattle.std.specs.Prelude.{◌≤◌, length};
 
 use caption::finder::{Caption, letter};
 use caption::{caption, check_list, find_caption};
@@ -52,7 +52,7 @@ fn main(rt: HostRuntime) {
 
 // Reads the venue list. A file that cannot be opened is a read that fails.
 fn read_list(rt: &HostRuntime, list: &mut [u8; LIST]) -> Got
-    ensures { result.count ≤ 131071 }
+    ensures { result.count ≤ length list.new }
 {
     match fs::open(rt, LIST_FILE) {
         Ok(file) => {
