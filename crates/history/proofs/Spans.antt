@@ -21,7 +21,7 @@ use Rattle.timeline.specs.declared.timeline.At.{At}
 use Rattle.timeline.specs.declared.timeline.At.TheVariants.{Absolute, Start, End, Label as Labeled, Offset}
 use Rattle.timeline.specs.declared.timeline.Timeline.{Timeline}
 use Rattle.timeline.specs.Placements.{live_labels, start_found, named_start, resolve_start}
-use Rattle.history.specs.Entries.{Span, span_of, spans, SameEntries}
+use Rattle.history.specs.Entries.{Span, span_of, SameEntries}
 
 -- ---- lists of entries with the same spans
 -- the entry of a span, not done

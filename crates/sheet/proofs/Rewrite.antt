@@ -8,7 +8,6 @@ use borrow.Author.Tests.{eqb-true, leb-true, le-leb, le-ltb}
 use lib.Dec.{eqb}
 use lib.ListN.{length, take, drop, replicate, length-take, length-drop, take-append-drop}
 use lib.Seq.{take-add, take_at, drop-drop, drop-length}
-use Rattle.refusal.specs.Refusal.{accepted}
 use Rattle.steps.specs.Times.{max_entries}
 use Rattle.label.specs.Label.{max_label, text, label_of}
 use Rattle.label.proofs.Text.{text-whole}

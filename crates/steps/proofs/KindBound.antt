@@ -5,7 +5,6 @@ use lib.Dec.{lit≤}
 use lib.Ieee.{Float, binary32, sub, div, le, eq}
 use Rattle.float32.specs.Helpers.{zero_f, one_f}
 use Rattle.steps.specs.declared.Entry.{Entry}
-use Rattle.steps.specs.declared.Stepped.{Stepped}
 use Rattle.steps.specs.Times.{end_at}
 use Rattle.steps.specs.Rows.{synced, reset_step, stepped, seek_row}
 

@@ -1,5 +1,5 @@
 -- All the calls on a timeline: what each leaves, sends, lists, answers and refuses. `step` is the definition of them all; `after` runs a list of them.
-use Rattle.std.specs.Prelude.{ℕ, Bool, true, false, cond, List, [], ◌∷◌, leb, ltb, length, Float}
+use Rattle.std.specs.Prelude.{ℕ, Bool, false, cond, List, [], ◌∷◌, leb, ltb, length, Float}
 use Rattle.refusal.specs.Refusal.{accepted, timeline_full, label_too_long}
 use Rattle.steps.specs.declared.Row.{Row}
 use Rattle.steps.specs.Times.{max_entries}

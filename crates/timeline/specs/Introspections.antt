@@ -1,5 +1,5 @@
 -- What `introspect` reports. Definitions only.
-use Rattle.std.specs.Prelude.{Bool, true, false, cond, Float}
+use Rattle.std.specs.Prelude.{cond, Float}
 use Rattle.float32.specs.Helpers.{zero_f, one_f, max_f, clamp_f, finite_f}
 use Rattle.clock.specs.declared.TimelineState.{TimelineState}
 use Rattle.clock.specs.declared.TimelineState.TheVariants.{Idle, Playing, Paused, Completed}

@@ -2,7 +2,7 @@
 use Prim.Native.Nat.{ℕ}
 use mathlib.Core.Path.{◌≡◌, refl}
 use mathlib.Core.Bool.{Bool, true, false, cond}
-use mathlib.Core.List.{List, map}
+use mathlib.Core.List.{List}
 use lib.Ieee.{Float, eq}
 use Rattle.float32.specs.Helpers.{zero_f, min_f}
 use Rattle.tween.specs.LoopMode.{is_once}

@@ -1,5 +1,5 @@
 -- The calls on a track: what each leaves, sends, answers and refuses. `track_step` is the definition of them all.
-use Rattle.std.specs.Prelude.{ℕ, Bool, true, false, not, ◌||◌, cond, List, [], map, ltb, length, Float}
+use Rattle.std.specs.Prelude.{ℕ, Bool, false, not, ◌||◌, cond, List, [], map, ltb, length, Float}
 use Rattle.refusal.specs.Refusal.{accepted, rows_too_short, bad_replies, list_too_short}
 use Rattle.tween.specs.declared.loop_mode.Loop.{Loop}
 use Rattle.steps.specs.declared.Row.{Row}

@@ -1,6 +1,5 @@
 -- `base_of` folds the ends by one test each: what is folded so far is not below 0, and so is no NaN.
 use mathlib.Core.Path.{refl, ap, ◌∙◌}
-use mathlib.Core.Bool.{true}
 use native.Mathlib.Omega.{arith}
 use borrow.Author.Rules.{rules}
 use Rattle.float32.specs.Helpers.{nonneg_f}

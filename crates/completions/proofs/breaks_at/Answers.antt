@@ -13,6 +13,6 @@ unfolding breaks_at
 returns c =
     simp c.cycle_start-start.ensures
     (elim c.if-w.branch [
-    | then-w+else-cycle-w w ↦ simp (w.if-w.true, lt-leb _ _ w.if-cycle-w.false)
-    | else-w w ↦ simp w.if-w.false
+      | then-w+else-cycle-w w ↦ simp (w.if-w.true, lt-leb _ _ w.if-cycle-w.false)
+      | else-w w ↦ simp w.if-w.false
     ])

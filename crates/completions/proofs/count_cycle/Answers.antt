@@ -20,8 +20,8 @@ loop-i-preserved c =
     let i = c.loop-i.i in
     let next = cycle-turn a.n a.starts.now a.durations.now c.requires.0 c.requires.1 i a.w a.start c.loop-i-test.true in
     elim c.if-completes_in.branch [
-    | then-completes_in w ↦ omega (arith, w.k-is, ap length (next _ (sym w.if-completes_in.true ∙ c.completes_in.ensures)))
-    | else-completes_in w ↦ omega (arith, w.k-is, ap length (next _ (sym w.if-completes_in.false ∙ c.completes_in.ensures)))
+      | then-completes_in w ↦ omega (arith, w.k-is, ap length (next _ (sym w.if-completes_in.true ∙ c.completes_in.ensures)))
+      | else-completes_in w ↦ omega (arith, w.k-is, ap length (next _ (sym w.if-completes_in.false ∙ c.completes_in.ensures)))
     ]
 
 pub returns : goal.returns

@@ -41,16 +41,16 @@ loop-i-preserved c =
     let l = c.loop-i in
     let next = cycle-turn a.n a.starts.now a.durations.now c.requires.1 c.requires.2 l.i a.w a.start c.loop-i-test.true in
     elim c.if-completes_in.branch [
-    | then-completes_in w ↦
-        let e = next _ (sym w.if-completes_in.true ∙ c.completes_in.ensures) in (
-          omega arith,
-          ap length w.list-is ∙ simp length-set l.invariant.1,
-          omega (arith, w.k-is, ap length e),
-          store_one l.list l.k l.i _ _ _ _ w.list-is w.k-is e ∙ l.invariant.3,
-        )
-    | else-completes_in w ↦
-        let e = next _ (sym w.if-completes_in.false ∙ c.completes_in.ensures) in
-        (omega arith, ap length w.list-is ∙ l.invariant.1, omega (arith, w.k-is, ap length e), rw (w.list-is, w.k-is, ← e) l.invariant.3)
+      | then-completes_in w ↦
+          let e = next _ (sym w.if-completes_in.true ∙ c.completes_in.ensures) in (
+            omega arith,
+            ap length w.list-is ∙ simp length-set l.invariant.1,
+            omega (arith, w.k-is, ap length e),
+            store_one l.list l.k l.i _ _ _ _ w.list-is w.k-is e ∙ l.invariant.3,
+          )
+      | else-completes_in w ↦
+          let e = next _ (sym w.if-completes_in.false ∙ c.completes_in.ensures) in
+          (omega arith, ap length w.list-is ∙ l.invariant.1, omega (arith, w.k-is, ap length e), rw (w.list-is, w.k-is, ← e) l.invariant.3)
     ]
 
 pub returns : goal.returns

@@ -6,7 +6,7 @@ use native.Mathlib.Omega.{arith}
 use lib.ListN.{length, get_or}
 use Rattle.steps.specs.declared.Entry.{Entry}
 use Rattle.steps.specs.declared.Stepped.{Stepped}
-use Rattle.track.specs.Updates.{ticks, newly_done}
+use Rattle.track.specs.Updates.{ticks}
 use Rattle.track.proofs.Marks.{no_entry, no_step}
 use Rattle.track.proofs.Ticks.{length-ticks, turn_at, rest-start, rest_end, rest-turn}
 use Rattle.track.specs.Columns.{first_of}
@@ -35,7 +35,7 @@ loop-i-preserved c =
     let newly : d.result ≡ (not (get_or es i no_entry).done && (get_or ss i no_step).done) = d.ensures ∙ ap (λ (x : Entry). not x.done && s.result.done) here ∙ ap (λ (y : Stepped). not (get_or es i no_entry).done && y.done) step in
     let turn = rest-turn es ss (length-ticks g.prev g.next es rs) i d.result h newly in
     elim c.if-newly_done.branch [
-      then-newly_done w ↦ let t = rw w.if-newly_done.true at turn in (omega arith, v.1, v.2, v.3, v.4, omega arith, omega (arith, ap length t))
+      | then-newly_done w ↦ let t = rw w.if-newly_done.true at turn in (omega arith, v.1, v.2, v.3, v.4, omega arith, omega (arith, ap length t))
       | else-newly_done w ↦ let t = rw w.if-newly_done.false at turn in (omega arith, v.1, v.2, v.3, v.4, omega arith, omega (arith, ap length t))
     ]
 

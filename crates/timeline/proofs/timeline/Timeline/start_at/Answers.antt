@@ -1,14 +1,13 @@
 -- `start_at` reads the start of an entry that counts.
 use Prim.Native.Nat.{◌<◌, ◌≤◌}
-use mathlib.Core.Path.{◌≡◌, sym, ap, ◌∙◌}
+use mathlib.Core.Path.{sym, ap, ◌∙◌}
 use native.Mathlib.Omega.{arith}
-use lib.ListN.{length, length-take, get_or-eq_default}
+use lib.ListN.{length, get_or-eq_default}
 use Rattle.steps.specs.declared.Entry.{Entry}
-use Rattle.steps.proofs.Lists.{unmapped, part_at}
+use Rattle.steps.proofs.Lists.{part_at}
 use Rattle.track.specs.Tracks.{live, blank}
 use Rattle.track.proofs.Marks.{no_entry}
 use Rattle.timeline.proofs.Growing.{get_d_any}
-use borrow.Author.Rules.{rules}
 use Rattle.timeline.proofs.timeline.Timeline.start_at.Goals as goal
 
 pub returns-then-i-entry_count : goal.returns-then-i-entry_count

@@ -1,5 +1,4 @@
 -- `playback_duration` is the run.
-use Rattle.steps.specs.Times.{run_of}
 use Rattle.track.specs.Columns.{track_of}
 use Rattle.track.proofs.track.Playhead.playback_duration.Goals as goal
 
