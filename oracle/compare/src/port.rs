@@ -47,8 +47,7 @@ impl Port {
     }
 }
 
-/// How the program is run: by the kit's loader, found once, as tools/run does each time; or by another
-/// command.
+/// How the program is run: itself, as tools/run does, or by another command.
 pub struct Program(Vec<String>);
 
 impl Program {
@@ -60,31 +59,11 @@ impl Program {
                 false => Ok(Program(words)),
             };
         }
-        let program = root().join("target/bin").join(name);
+        let program = root().join("crates").join(name).join("out").join(name);
         if !program.exists() {
             return Err(format!("{name}: it is not built"));
         }
-        let by_tools = || vec![root().join("tools/run").display().to_string(), name.into()];
-        let guide = Command::new("rt")
-            .arg("doc")
-            .output()
-            .map_err(|e| e.to_string())?;
-        let guide = String::from_utf8_lossy(&guide.stdout).trim().to_string();
-        let kit = guide
-            .strip_suffix("/docs/START-HERE.md")
-            .unwrap_or_default();
-        let library = format!("{kit}/on/x86_64/toolchain/lib");
-        let loader = format!("{library}/ld-linux-x86-64.so.2");
-        if !cfg!(target_arch = "x86_64") || !fs::exists(&loader).unwrap_or(false) {
-            return Ok(Program(by_tools()));
-        }
-        let program = program.display().to_string();
-        Ok(Program(vec![
-            loader,
-            "--library-path".into(),
-            library,
-            program,
-        ]))
+        Ok(Program(vec![program.display().to_string()]))
     }
 
     pub fn command(&self) -> Command {
