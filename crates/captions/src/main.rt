@@ -14,8 +14,8 @@ use std::io::{Print, Stderr, Stdout};
 use steps::least;
 use streams::{Got, front, read_to};
 
-// The venue list's descriptor, one that nothing else has open, by its name: it is opened again, so that a regular file is read from its
-// start, and what can be read once alone is no list here (`./panel` copies it first).
+// The venue list's descriptor, one that nothing else has open, by its name. It is opened again, so that a regular file is read from
+// its start; of a FIFO that nobody writes to any more that would wait, and `./panel` copies what is no regular file first.
 const LIST_FILE: &str = "/dev/fd/9";
 
 // One byte more than the longest list that is well formed: all offsets are u16, and so is the last length.

@@ -1,9 +1,11 @@
 // Rust's helpers on f32 that the language lacks (paper 01, part 1), worked out by tests and from the bits.
 #![tactic(auto)]
 
-ghost use Rattle.std.specs.Prelude.{◌≡◌, ◌+◌, ◌*◌, ◌/◌, ◌%◌, ◌^◌, ◌<◌, ◌≤◌};
+ghost use Rattle.std.specs.Prelude.{◌≡◌, ◌+◌, ◌*◌, ◌/◌, ◌%◌, ◌^◌, ◌-◌, ◌<◌, ◌≤◌, true, min};
 ghost use Rattle.std.specs.Float.Ieee as Ieee;
 ghost use Rattle.std.specs.Float.Ieee.Nearest.{closest};
+ghost use lib.Ieee.Exact.{HasValue};
+ghost use Rattle.float32.specs.Parts.{field_of, digits_in, scale_of, unit_pattern};
 ghost use Rattle.float32.specs.Helpers.{max_f, min_f, clamp_f, finite_f, infinity_f, from_u32, to_u32, from_bits, to_bits};
 
 // `a.max(b)`: a NaN operand gives the other one, equal operands the first.
@@ -175,4 +177,130 @@ pub fn to_bits(x: f32) -> u32
         return 0x7fc0_0000;
     }
     f32::to_bits(x)
+}
+
+// ---- the remainder, in whole numbers: a finite value is its digits times 2^scale of the smallest values, 2^-149
+
+// The digits of a pattern.
+fn digits_in(bits: u32) -> u32
+    ensures { result ≡ digits_in bits }
+{
+    if exponent_of(bits) == 0 {
+        return bits % 0x80_0000;
+    }
+    digits_of(bits)
+}
+
+// The scale of a pattern: a field of 0 counts as 1.
+fn scale_of(bits: u32) -> u32
+    ensures { result ≡ scale_of bits }
+{
+    let field = exponent_of(bits);
+    if field == 0 {
+        return 0;
+    }
+    field - 1
+}
+
+// The lower of two scales.
+fn lower(p: u32, e: u32) -> u32
+    ensures { result ≡ min p e }
+{
+    if e < p { e } else { p }
+}
+
+// q % (d * 2^k). From 24 places on q is below that.
+fn rest_above(q: u32, d: u32, k: u32) -> u32
+    requires { (q < 2 ^ 24) × (0 < d) × (d < 2 ^ 24) }
+    ensures { result ≡ q % (d * 2 ^ k) }
+{
+    if k >= 24 {
+        return q;
+    }
+    let divisor = (d as u64) << k;
+    ((q as u64) % divisor) as u32
+}
+
+// q * 2^k % d, by 32 places at a time.
+fn rest_below(q: u32, d: u32, k: u32) -> u32
+    requires { (0 < d) × (d < 2 ^ 24) }
+    ensures { result ≡ q * 2 ^ k % d }
+{
+    let divisor = d as u64;
+    let mut rest = (q % d) as u64;
+    let mut left = k;
+    while left > 32 {
+        rest = (rest << 32) % divisor;
+        left -= 32;
+    }
+    ((rest << left) % divisor) as u32
+}
+
+// The digits that are left of q * 2^p after as many d * 2^e as go into it, in units of the lower scale.
+fn rest_of(q: u32, p: u32, d: u32, e: u32) -> u32
+    requires { (q < 2 ^ 24) × (0 < d) × (d < 2 ^ 24) }
+    ensures value { result * 2 ^ min p e ≡ q * 2 ^ p % (d * 2 ^ e) }
+    ensures bound { result < 2 ^ 24 }
+{
+    if p < e {
+        return rest_above(q, d, e - p);
+    }
+    rest_below(q, d, p - e)
+}
+
+// The pattern of 2^p of the smallest values.
+fn unit_pattern(p: u32) -> u32
+    requires { p ≤ 253 }
+    ensures { result ≡ unit_pattern p }
+{
+    if p < 23 {
+        return 1 << p;
+    }
+    (p - 22) * 0x80_0000
+}
+
+// 2^p of the smallest values, with a sign.
+fn unit_of(negative: bool, p: u32) -> f32
+    requires { p ≤ 253 }
+    ensures { HasValue result negative (2 ^ p) (2 ^ 149) }
+{
+    let pattern = unit_pattern(p);
+    if negative {
+        return f32::from_bits(0x8000_0000 + pattern);
+    }
+    f32::from_bits(pattern)
+}
+
+// `x % y` of finite values.
+fn finite_remainder(x: f32, y: f32) -> f32
+    requires { (finite_f x ≡ true) × (finite_f y ≡ true) }
+    ensures { result ≡ Ieee.rem Ieee.binary32 x y }
+{
+    let a: u32 = f32::to_bits(x);
+    let b: u32 = f32::to_bits(y);
+    let divisor = digits_in(b);
+    if divisor == 0 {
+        return 0.0 / 0.0;
+    }
+    let p = scale_of(a);
+    let e = scale_of(b);
+    let digits = rest_of(digits_in(a), p, divisor, e);
+    let unit = unit_of(a >= 0x8000_0000, lower(p, e));
+    from_u32(digits) * unit
+}
+
+// `x % y`: the exact remainder, with the sign of x.
+pub fn remainder(x: f32, y: f32) -> f32
+    ensures { result ≡ Ieee.rem Ieee.binary32 x y }
+{
+    if !is_finite(x) {
+        return 0.0 / 0.0;
+    }
+    if y != y {
+        return y;
+    }
+    if !is_finite(y) {
+        return x;
+    }
+    finite_remainder(x, y)
 }

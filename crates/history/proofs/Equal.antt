@@ -15,6 +15,7 @@ use lib.Ieee.Scale.{round_same}
 use Rattle.float32.specs.Helpers.{min_f}
 use Rattle.float32.proofs.Order.{first_zero, zero_times, le-no_nan, le_trans, le_of_eq, lt_of_lt_of_le}
 use Rattle.float32.proofs.MaxMin.{min-is}
+use Rattle.float32.proofs.Rest.{mod_scaled}
 use Rattle.float32.proofs.Nonneg.{zero_size, round-zero_value}
 use Rattle.steps.proofs.Tests.{and-true}
 
@@ -109,13 +110,6 @@ min-equal x y b h =
     rw (min-is x b n.0, min-is y b n.1, lt_same x y b h) (either_same (lt b y) b x y (inr h))
 
 -- ---- remainders and differences of them
--- a remainder, scaled
-mod_scaled : (a b c : ℕ) → 0 < c → a * c % (b * c) ≡ a % b * c
-mod_scaled a b c C = elim (eq-zero-or-pos b) [
-  | inl z ↦ rw (z, zero-mul, mod-zero (a * c), mod-zero a)
-  | inr B ↦ mod-mul (a * c) B C ∙ ap₂ (λ (q r : ℕ). q % b * c + r) (mul-div_cancel a C) (mul-mod_left a c) ∙ add-zero (a % b * c)
-]
-
 -- zeros of either sign
 zeros_equal : (x y : Float) (s t : Bool) (c d : ℕ) → 0 < c → 0 < d → HasValue x s 0 c → HasValue y t 0 d → eq x y ≡ true
 unfolding eq

@@ -88,7 +88,7 @@ fn times_local(base: f32, n: u32, elapsed: f32) -> f32
     if elapsed >= total {
         base
     } else {
-        elapsed % base
+        float32::remainder(elapsed, base)
     }
 }
 
@@ -96,14 +96,14 @@ fn times_local(base: f32, n: u32, elapsed: f32) -> f32
 fn remainder(base: f32, elapsed: f32) -> f32
     ensures { result ≡ rem binary32 elapsed base }
 {
-    elapsed % base
+    float32::remainder(elapsed, base)
 }
 
 // The local time there and back.
 fn ping_pong(base: f32, elapsed: f32) -> f32
     ensures { result ≡ ping_pong base elapsed }
 {
-    let cycle = elapsed % (base * 2.0);
+    let cycle = float32::remainder(elapsed, base * 2.0);
     if cycle <= base {
         cycle
     } else {

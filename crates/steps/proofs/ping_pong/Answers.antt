@@ -6,8 +6,8 @@ use Rattle.steps.proofs.ping_pong.Goals as goal
 
 pub returns-then-cycle-base : goal.returns-then-cycle-base
 unfolding ping_pong
-returns-then-cycle-base c = yes _ _ _ _ c.if-cycle-base.true refl
+returns-then-cycle-base c = rw (← c.remainder-cycle.ensures) (yes _ _ _ _ c.if-cycle-base.true refl)
 
 pub returns-else-cycle-base : goal.returns-else-cycle-base
 unfolding ping_pong
-returns-else-cycle-base c = no _ _ _ _ c.if-cycle-base.false refl
+returns-else-cycle-base c = rw (← c.remainder-cycle.ensures) (no _ _ _ _ c.if-cycle-base.false refl)

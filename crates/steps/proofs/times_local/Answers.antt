@@ -11,4 +11,4 @@ returns-then-elapsed-total c = yes _ _ _ _ (ap (λ (u : Float). le u c.args.elap
 
 pub returns-else-elapsed-total : goal.returns-else-elapsed-total
 unfolding times_local
-returns-else-elapsed-total c = no _ _ _ _ (ap (λ (u : Float). le u c.args.elapsed) (sym c.times_run-total.ensures) ∙ c.if-elapsed-total.false) refl
+returns-else-elapsed-total c = no _ _ _ _ (ap (λ (u : Float). le u c.args.elapsed) (sym c.times_run-total.ensures) ∙ c.if-elapsed-total.false) c.remainder.ensures
