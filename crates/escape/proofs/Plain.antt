@@ -8,9 +8,6 @@ use Rattle.escape.specs.Escape.{plain}
 
 -- ---- the test, as it is taken
 
-pub plain-backslash : (b : ℕ) → b ≡ 92 → false ≡ plain b
-plain-backslash b e = rw e
-
 pub plain-low : (b : ℕ) → b < 32 → leb 32 b ≡ plain b
 plain-low b h = rw (lt-leb 32 b h)
 

@@ -48,6 +48,7 @@ pub fn text_len(l: Label) -> usize
 }
 
 // Whether two texts are equal, byte by byte.
+#[tactic(auto, using(crate::proofs::SameText::same_length))]
 pub fn same_text(a: &[u8], b: &[u8]) -> bool
     ensures { result ≡ same_text a.now b.now }
 {

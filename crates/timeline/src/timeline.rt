@@ -340,6 +340,7 @@ impl Timeline {
     }
 
     // One entry more, if there is room for it and for its label.
+    #[tactic(auto, using(crate::proofs::Growing::full))]
     fn push(self, label: &[u8], start: f32, duration: f32) -> Added
         ensures { result ≡ added_by (added_at self label.now start duration) }
     {

@@ -1,14 +1,11 @@
 -- `same_text` is `same_text`.
 use mathlib.Core.Path.{refl, sym, ◌∙◌}
 use native.Mathlib.Omega.{arith}
-use Rattle.label.proofs.SameText.{same_length, same_more, same_not, same_end}
+use Rattle.label.proofs.SameText.{same_more, same_not, same_end}
 use Rattle.label.proofs.same_text.Goals as goal
 
-pub returns-then-a-b : goal.returns-then-a-b
-returns-then-a-b c = sym (same_length _ _ c.if-a-b.true)
-
 pub loop-i-init : goal.loop-i-init
-loop-i-init c = (omega arith, c.if-a-b.false, refl)
+loop-i-init c = (omega arith, omega arith, refl)
 
 pub returns-then-a-i : goal.returns-then-a-i
 returns-then-a-i c = sym (c.loop-i.invariant.2 ∙ same_not _ _ c.loop-i.i (omega arith) (omega arith) c.if-a-i.true)

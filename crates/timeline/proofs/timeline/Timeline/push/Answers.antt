@@ -1,18 +1,15 @@
--- `push` is `added_at`: 1, then 2, then the entry.
+-- `push` is `added_at`: 2 where the label is too long, then the entry.
 use mathlib.Core.Path.{sym, ap, ◌∙◌}
 use native.Mathlib.Omega.{arith}
 use Rattle.timeline.specs.declared.timeline.Timeline.{Timeline}
 use Rattle.timeline.specs.Calls.{added_by}
-use Rattle.timeline.proofs.Growing.{full, too_long, grows}
+use Rattle.timeline.proofs.Growing.{too_long, grows}
 use Rattle.timeline.proofs.timeline.Timeline.push.Goals as goal
 
-pub returns-then-track-ge-MAX_ENTRIES : goal.returns-then-track-ge-MAX_ENTRIES
-returns-then-track-ge-MAX_ENTRIES c = sym (ap added_by (full c.args.self _ _ _ (omega arith)))
-
 pub returns-then-label-gt-MAX_LABEL : goal.returns-then-label-gt-MAX_LABEL
-returns-then-label-gt-MAX_LABEL c = sym (ap added_by (too_long _ _ _ _ c.if-track-ge-MAX_ENTRIES.false c.if-label-gt-MAX_LABEL.true))
+returns-then-label-gt-MAX_LABEL c = sym (ap added_by (too_long _ _ _ _ (omega arith) (omega arith)))
 
 pub returns : goal.returns
 returns c =
     ap (λ (t : Timeline). record { refusal = 0; timeline = t }) c.grown-timeline.ensures
-    ∙ sym (ap added_by (grows _ _ _ _ c.if-track-ge-MAX_ENTRIES.false c.if-label-gt-MAX_LABEL.false))
+    ∙ sym (ap added_by (grows _ _ _ _ (omega arith) (omega arith)))
