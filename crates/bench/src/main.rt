@@ -11,7 +11,8 @@ mod in_place;
 mod jobs;
 mod rows;
 
-use streams::{read_to, write_all};
+use std::io::Print;
+use streams::read_to;
 
 const INPUT: usize = 6;
 
@@ -34,7 +35,7 @@ fn main(rt: HostRuntime) {
     let mut line = *b"........ ........\n";
     digits::put_hex8(float32::to_bits(came.time), &mut line, 0);
     digits::put_hex8(came.seen, &mut line, 9);
-    write_all(rt.stdout(), &line);
+    rt.stdout().write_all(&line).is_ok();
 }
 
 fn word(input: &[u8; INPUT]) -> u32 {

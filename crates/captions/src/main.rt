@@ -161,7 +161,7 @@ fn write_text(stdout: Stdout, text: &[u8], room: &mut [u8]) -> bool {
 
 // Writes the first `len` bytes, and says whether it could.
 fn write(stdout: Stdout, bytes: &[u8], len: usize) -> bool {
-    streams::write_all(stdout, front(bytes, len))
+    stdout.write_all(front(bytes, len)).is_ok()
 }
 
 // ---- the first line
@@ -181,7 +181,7 @@ fn write_accepted(stdout: Stdout, count: usize) -> bool {
 }
 
 fn write_name(stdout: Stdout) -> bool {
-    streams::write_all(stdout, b"captions ")
+    stdout.write_all(b"captions ").is_ok()
 }
 
 // ---- the fields of a line, up to its text

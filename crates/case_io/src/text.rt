@@ -2,7 +2,7 @@
 ghost use Rattle.std.specs.Prelude.{◌≡◌, ◌+◌, ◌≤◌};
 
 use digits::wide;
-use std::io::Stdout;
+use std::io::{Print, Stdout};
 use steps::least;
 
 // The bytes that are kept back before they are taken at once.
@@ -72,7 +72,7 @@ impl Sink {
         let bytes: &[u8] = buffer;
         let taken = &bytes[..n];
         if self.text {
-            streams::write_all(self.stdout, taken);
+            self.stdout.write_all(taken).is_ok();
             return self.with_used(0);
         }
         Sink {
@@ -99,7 +99,7 @@ impl Sink {
         if !self.text {
             let mut line = [b'\n'; 9];
             digits::put_hex8(done.digest, &mut line, 0);
-            streams::write_all(self.stdout, &line);
+            self.stdout.write_all(&line).is_ok();
         }
     }
 

@@ -167,7 +167,7 @@ fn write_line(stdout: Stdout, stderr: Stderr, line: &[u8; LINE], len: usize) -> 
 // Writes the first `len` bytes, and says whether it could. After the first failure nothing more is written: what stands there is the
 // log's beginning.
 fn write(stdout: Stdout, stderr: Stderr, bytes: &[u8], len: usize) -> bool {
-    let written = streams::write_all(stdout, front(bytes, len));
+    let written = stdout.write_all(front(bytes, len)).is_ok();
     if !written {
         not_written(stderr);
     }

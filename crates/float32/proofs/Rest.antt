@@ -147,8 +147,8 @@ own-value x p h =
     subst (λ (y : Float). HasValue y (leb (top binary32) n) (digits_in n * 2 ^ scale_of n) (2 ^ low binary32)) (of_bits-to_bits binary32 x p) (pattern-value n h)
 
 -- a finite value's field is not all ones
-pub finite-field : (x : Float) → T (fits binary32 x) → finite_f x ≡ true → field_of (to_bits binary32 x) ≡ 255 → ⊥
-finite-field x p h k =
+pub field_not_ones : (x : Float) → T (fits binary32 x) → finite_f x ≡ true → field_of (to_bits binary32 x) ≡ 255 → ⊥
+field_not_ones x p h k =
     let e : true ≡ not (eqb (field_of (to_bits binary32 x)) 255) = sym h ∙ finite_field binary32 x p in
     let s : eqb (field_of (to_bits binary32 x)) 255 ≡ true = eq-eqb (field_of (to_bits binary32 x)) 255 k in
     true≢false (e ∙ ap not s)

@@ -10,8 +10,8 @@ mod question;
 ghost use Rattle.std.specs.Prelude.{◌+◌, ◌≤◌};
 
 use digits::wide;
-use std::io::{Stdin, Stdout};
-use streams::{read_to, write_all};
+use std::io::{Print, Stdin, Stdout};
+use streams::read_to;
 
 const RECORD: usize = 21;
 
@@ -61,7 +61,7 @@ fn write_lines(stdout: Stdout, lines: &[u8; BLOCK_LINES], count: usize) -> bool
 {
     let n = count * LINE;
     let bytes: &[u8] = lines;
-    write_all(stdout, &bytes[..n])
+    stdout.write_all(&bytes[..n]).is_ok()
 }
 
 // Puts the line of the record at `from`.

@@ -1,9 +1,9 @@
-// Reads and writes of the programs that people run.
+// Reads and fronts that the programs share.
 #![tactic(auto)]
 
 ghost use Rattle.std.specs.Prelude.{◌≡◌, ◌≤◌, length, take};
 
-use std::io::{Print, Read, Stdout};
+use std::io::Read;
 use steps::least;
 
 // How many bytes are there, and whether the last read failed.
@@ -51,11 +51,6 @@ pub fn read_to<R: Read>(reader: &mut R, bytes: &mut [u8], from: usize, to: usize
         count,
         failed: false,
     }
-}
-
-// Writes all the bytes, and says whether it could.
-pub fn write_all(out: Stdout, bytes: &[u8]) -> bool {
-    out.write_all(bytes).is_ok()
 }
 
 // The first `len` bytes, or all where there are fewer.
