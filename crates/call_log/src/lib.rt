@@ -288,7 +288,8 @@ fn next(
             head,
         };
     }
-    if rest.len() == 0 {
+    let none = rest.len() == 0;
+    if none {
         return Logged {
             len: 0,
             number,

@@ -107,6 +107,7 @@ fn breaks_at(w: Walk, cycle: u32) -> bool
 }
 
 // Whether it does after the count went on to this cycle.
+#[tactic(auto, unfolding(crate::specs::Completions::stops_at))]
 fn stops_at(w: Walk, cycle: u32) -> bool
     ensures { result ≡ stops_at w cycle }
 {

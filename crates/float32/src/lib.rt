@@ -35,6 +35,7 @@ pub fn min(a: f32, b: f32) -> f32
 }
 
 // `x.clamp(lo, hi)`: a NaN is kept.
+#[tactic(auto, unfolding(crate::specs::Helpers::clamp_f))]
 pub fn clamp(x: f32, lo: f32, hi: f32) -> f32
     ensures { result ≡ clamp_f x lo hi }
 {

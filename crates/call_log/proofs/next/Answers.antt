@@ -1,6 +1,6 @@
 -- No line where none is due; else the call and its line.
 use native.Mathlib.Omega.{arith}
-use borrow.Author.Tests.{eq-eqb, ne_eqb}
+use borrow.Author.Tests.{ne_eqb}
 use lib.ListN.{length}
 use Rattle.track.specs.Columns.{track_of}
 use Rattle.call_log.proofs.Making.{made_call, list-size, list_count, logs-none, logs-one}
@@ -11,10 +11,10 @@ returns-then-not-logging c =
     let a = c.args in
     logs-none (record { number = a.number; logging = a.logging; track = track_of a.head a.starts.now a.durations.now a.marks.now }) a.rest.now a.head a.at a.out.now (rw c.if-not-logging.true)
 
-pub returns-then-rest-eq0 : goal.returns-then-rest-eq0
-returns-then-rest-eq0 c =
+pub returns-then-none : goal.returns-then-none
+returns-then-none c =
     let a = c.args in
-    logs-none (record { number = a.number; logging = a.logging; track = track_of a.head a.starts.now a.durations.now a.marks.now }) a.rest.now a.head a.at a.out.now (rw (c.if-not-logging.false, eq-eqb (length a.rest.now) 0 (omega arith)))
+    logs-none (record { number = a.number; logging = a.logging; track = track_of a.head a.starts.now a.durations.now a.marks.now }) a.rest.now a.head a.at a.out.now (rw (c.if-not-logging.false, c.if-none.true))
 
 pub called-end-requires : goal.called-end-requires
 called-end-requires c =
@@ -37,4 +37,4 @@ returns c =
     let made = made_call t a.rest.now r _ a.replies.now a.list.now _ a.kinds.now _ a.amounts.now _ a.places.now _ _ _ c.requires.0 c.call_at-call.ensures c.make-made.ensures in
     let called = c.called-end in
     logs-one a.number a.logging a.head a.starts.now a.durations.now a.marks.now _ a.rest.now r _ a.list.now _ _ a.at _ a.out.now _
-    (rw (c.if-not-logging.false, ne_eqb (length a.rest.now) 0 c.if-rest-eq0.false)) c.requires.0.list made c.counted-number.ensures c.with_clock-head.ensures called.ensures.0 called.ensures.1
+    (rw c.if-not-logging.false (ne_eqb (length a.rest.now) 0 c.if-none.false)) c.requires.0.list made c.counted-number.ensures c.with_clock-head.ensures called.ensures.0 called.ensures.1
