@@ -1,211 +1,135 @@
 // The calls in place: the entries stand in three columns that are lent.
 use crate::Came;
-use crate::rows::{is_listed, is_row, look};
+use crate::jobs::{Job, share};
+use crate::rows::{Sent, is_listed, is_sent, sum};
+use clock::Clock;
+use completions::Spans;
 use player::engine;
+use refusal::Refusal;
 use steps::MAX_ENTRIES;
 use timeline::timeline::Timeline;
-use track::track::{Playhead, Secs, Share};
+use track::rows::Rows;
+use track::track::{Columns, Playhead, Secs, Share};
 
 // What a job comes to, on the entries of t.
-pub(crate) fn come_to(t: Timeline, job: u8, looks: bool, turns: u32) -> Came {
+pub(crate) fn come_to(t: Timeline, job: Job, looks: bool, turns: u32) -> Came {
     let base = t.duration();
-    let mut starts = [0.0f32; MAX_ENTRIES];
-    let mut durations = [0.0f32; MAX_ENTRIES];
-    let mut marks = [false; MAX_ENTRIES];
-    let track = t.track;
-    let laid = track.lay_out(&mut starts, &mut durations, &mut marks);
-    let head = started(laid, job, &starts, &durations);
+    let c = Columns::of(t.track);
+    let spans = Spans {
+        starts: &c.starts,
+        durations: &c.durations,
+    };
+    let head = started(c.head, job, spans);
     match job {
-        4 | 5 => seeks_abs(head, base, turns, looks, &starts, &durations),
-        6 => seeks(head, turns, looks, &starts, &durations),
-        _ => {
-            let dt = crate::jobs::step(job, base, turns);
-            updates(head, dt, turns, looks, &starts, &durations)
-        }
+        Job::SeekAbsOnce | Job::SeekAbsForever => seeks_abs(head, base, turns, looks, spans),
+        Job::SeekPingPong => seeks(head, turns, looks, spans),
+        _ => updates(head, job.step(base, turns), turns, looks, spans),
     }
 }
 
 // What a job starts from, with no entry done: playing, from 0 or, for the longest walk, from a late second. A call that is made from
 // one place only is built into the loop there; the Rust's calls are not. So each is made here once more.
-fn started(from: Playhead, job: u8, starts: &[f32], durations: &[f32]) -> Playhead {
+fn started(from: Playhead, job: Job, spans: Spans<'_>) -> Playhead {
     let replies = [1u8; MAX_ENTRIES];
     let mut list = [0u8; 256];
     let mut marks = [false; MAX_ENTRIES];
-    let mut kinds = [0u8; MAX_ENTRIES];
-    let mut amounts = [0.0f32; MAX_ENTRIES];
-    let mut places = [0.0f32; MAX_ENTRIES];
-    let p = engine::play(
-        from,
-        starts,
-        durations,
-        &mut marks,
-        &mut kinds,
-        &mut amounts,
-        &mut places,
-    );
-    let played = from.with_clock(p.clock);
-    let u = engine::update(
-        played,
-        0.0,
-        starts,
-        durations,
-        &mut marks,
-        &replies,
-        &mut list,
-        &mut kinds,
-        &mut amounts,
-        &mut places,
-    );
-    let updated = from.with_clock(u.clock);
-    let s = engine::seek(
+    let mut sent = Sent::new();
+    let rows = &mut sent.lend();
+    let played = after(from, engine::play(from, spans, &mut marks, rows));
+    let updated = match engine::update(played, 0.0, spans, &mut marks, &replies, &mut list, rows) {
+        Ok(u) => played.with_clock(u.clock),
+        Err(_) => played,
+    };
+    let sought = after(
         updated,
-        Share(0.0),
-        starts,
-        durations,
-        &mut marks,
-        &mut kinds,
-        &mut amounts,
-        &mut places,
+        engine::seek(updated, Share(0.0), spans, &mut marks, rows),
     );
-    let sought = from.with_clock(s.clock);
-    let to = Secs(crate::jobs::first(job));
-    let a = engine::seek_abs(
+    let to = Secs(job.first());
+    after(
         sought,
-        to,
-        starts,
-        durations,
-        &mut marks,
-        &mut kinds,
-        &mut amounts,
-        &mut places,
-    );
-    from.with_clock(a.clock)
+        engine::seek_abs(sought, to, spans, &mut marks, rows),
+    )
 }
 
-// What a job comes to, if what was written last can be.
-fn came(head: Playhead, seen: u32, first: u8, kind: u8, amount: f32, place: f32) -> Came {
-    let c = head.clock;
-    if is_listed(first, head.count) {
-        if is_row(kind, amount, place) {
-            return Came {
-                time: c.elapsed,
-                seen,
-            };
-        }
+// The playhead after a call: as it was, where that was refused.
+fn after(head: Playhead, call: Result<Clock, Refusal>) -> Playhead {
+    match call {
+        Ok(clock) => head.with_clock(clock),
+        Err(_) => head,
     }
-    Came { time: 0.0, seen: 0 }
 }
 
-// Seeks to thousandths of the base.
-fn seeks_abs(
-    from: Playhead,
-    base: f32,
-    turns: u32,
-    looks: bool,
-    starts: &[f32],
-    durations: &[f32],
-) -> Came {
+// Seeks to thousandths of the base. It is no loop with `seeks`, by a closure: tried and slower, by 20 instructions a call.
+fn seeks_abs(from: Playhead, base: f32, turns: u32, looks: bool, spans: Spans<'_>) -> Came {
     let mut head = from;
     let mut marks = [false; MAX_ENTRIES];
-    let mut kinds = [0u8; MAX_ENTRIES];
-    let mut amounts = [0.0f32; MAX_ENTRIES];
-    let mut places = [0.0f32; MAX_ENTRIES];
-    let mut seen = 0u32;
-    let mut turn = 0u32;
-    while turn < turns {
-        let secs = float32::from_u32(turn % 1000) * 0.001 * base;
-        turn += 1;
-        let r = engine::seek_abs(
+    let mut sent = Sent::new();
+    let rows = &mut sent.lend();
+    let mut seen = 0;
+    for turn in 0..turns {
+        head = after(
             head,
-            Secs(secs),
-            starts,
-            durations,
-            &mut marks,
-            &mut kinds,
-            &mut amounts,
-            &mut places,
+            engine::seek_abs(head, Secs(share(turn) * base), spans, &mut marks, rows),
         );
-        head = head.with_clock(r.clock);
-        seen = look(looks, from.count, &kinds, &amounts, &places, seen);
+        if looks {
+            seen = sum(from.count, rows, seen);
+        }
     }
-    came(head, seen, 0, kinds[0], amounts[0], places[0])
+    came(head, seen, &[0], rows)
 }
 
 // Seeks to thousandths of the run.
-fn seeks(from: Playhead, turns: u32, looks: bool, starts: &[f32], durations: &[f32]) -> Came {
+fn seeks(from: Playhead, turns: u32, looks: bool, spans: Spans<'_>) -> Came {
     let mut head = from;
     let mut marks = [false; MAX_ENTRIES];
-    let mut kinds = [0u8; MAX_ENTRIES];
-    let mut amounts = [0.0f32; MAX_ENTRIES];
-    let mut places = [0.0f32; MAX_ENTRIES];
-    let mut seen = 0u32;
-    let mut turn = 0u32;
-    while turn < turns {
-        let share = float32::from_u32(turn % 1000) * 0.001;
-        turn += 1;
-        let r = engine::seek(
+    let mut sent = Sent::new();
+    let rows = &mut sent.lend();
+    let mut seen = 0;
+    for turn in 0..turns {
+        head = after(
             head,
-            Share(share),
-            starts,
-            durations,
-            &mut marks,
-            &mut kinds,
-            &mut amounts,
-            &mut places,
+            engine::seek(head, Share(share(turn)), spans, &mut marks, rows),
         );
-        head = head.with_clock(r.clock);
-        seen = look(looks, from.count, &kinds, &amounts, &places, seen);
+        if looks {
+            seen = sum(from.count, rows, seen);
+        }
     }
-    came(head, seen, 0, kinds[0], amounts[0], places[0])
+    came(head, seen, &[0], rows)
 }
 
-// Updates, and `play` wherever the run ends. They may be refused by 5.
-fn updates(
-    from: Playhead,
-    dt: f32,
-    turns: u32,
-    looks: bool,
-    starts: &[f32],
-    durations: &[f32],
-) -> Came {
+// Updates, and `play` wherever the run ends: a second call, so a loop of its own. They may be refused by 5.
+fn updates(from: Playhead, dt: f32, turns: u32, looks: bool, spans: Spans<'_>) -> Came {
     let mut head = from;
     let replies = [1u8; MAX_ENTRIES];
     let mut list = [0u8; 256];
     let mut marks = [false; MAX_ENTRIES];
-    let mut kinds = [0u8; MAX_ENTRIES];
-    let mut amounts = [0.0f32; MAX_ENTRIES];
-    let mut places = [0.0f32; MAX_ENTRIES];
-    let mut seen = 0u32;
-    let mut turn = 0u32;
-    while turn < turns {
-        turn += 1;
-        let u = engine::update(
-            head,
-            dt,
-            starts,
-            durations,
-            &mut marks,
-            &replies,
-            &mut list,
-            &mut kinds,
-            &mut amounts,
-            &mut places,
-        );
+    let mut sent = Sent::new();
+    let rows = &mut sent.lend();
+    let mut seen = 0;
+    for _ in 0..turns {
+        let updated = engine::update(head, dt, spans, &mut marks, &replies, &mut list, rows);
+        if looks {
+            seen = sum(from.count, rows, seen);
+        }
+        let Ok(u) = updated else { continue };
         head = head.with_clock(u.clock);
-        seen = look(looks, from.count, &kinds, &amounts, &places, seen);
         if u.completed {
-            let r = engine::play(
-                head,
-                starts,
-                durations,
-                &mut marks,
-                &mut kinds,
-                &mut amounts,
-                &mut places,
-            );
-            head = head.with_clock(r.clock);
-            seen = look(looks, from.count, &kinds, &amounts, &places, seen);
+            head = after(head, engine::play(head, spans, &mut marks, rows));
+            if looks {
+                seen = sum(from.count, rows, seen);
+            }
         }
     }
-    came(head, seen, list[0], kinds[0], amounts[0], places[0])
+    came(head, seen, &list, rows)
+}
+
+// What a job comes to, if what was written last can be.
+fn came(head: Playhead, seen: u32, list: &[u8], rows: &Rows<'_>) -> Came {
+    if is_listed(list, head.count) && is_sent(rows) {
+        return Came {
+            time: head.clock.elapsed,
+            seen,
+        };
+    }
+    Came { time: 0.0, seen: 0 }
 }

@@ -1,91 +1,110 @@
-// The jobs: 0 and 1 update in Once, 2 in Forever, 3 in PingPong; 4 and 5 seek to seconds, 6 to shares; 7 adds entries; 8 makes the
-// longest walk that is known (completions/specs/Prompt.antt).
+// The jobs: what is called, on which entries.
 use timeline::timeline::{At, Timeline};
 use tween::Loop;
 
-pub const ADD: u8 = 7;
+// What is timed, in the order of its number in the input. The same jobs stand in the oracle.
+#[derive(Clone, Copy)]
+pub(crate) enum Job {
+    // Updates in steps that reach nine tenths of the base in all.
+    UpdateOnceSmall,
+    // Updates of a tenth of the base, and `play` at the end.
+    UpdateOnceTenths,
+    // Updates of a base.
+    UpdateForever,
+    UpdatePingPong,
+    SeekAbsOnce,
+    SeekAbsForever,
+    SeekPingPong,
+    // Entries of an empty timeline, again and again.
+    Add,
+    // The longest walk that is known (completions/specs/Prompt.antt).
+    LongestWalk,
+    // Updates of a base: what a number means that has no job.
+    UpdateOnce,
+}
 
-const WALK: u8 = 8;
+impl Job {
+    // The job that the last digit of a number means.
+    pub(crate) fn from_number(number: u8) -> Job {
+        match number % 10 {
+            0 => Job::UpdateOnceSmall,
+            1 => Job::UpdateOnceTenths,
+            2 => Job::UpdateForever,
+            3 => Job::UpdatePingPong,
+            4 => Job::SeekAbsOnce,
+            5 => Job::SeekAbsForever,
+            6 => Job::SeekPingPong,
+            7 => Job::Add,
+            8 => Job::LongestWalk,
+            _ => Job::UpdateOnce,
+        }
+    }
 
-// Three units in the last place of the second from which the longest walk goes.
-const THREE_UNITS: f32 = 0.09375;
+    fn mode(self) -> Loop {
+        match self {
+            Job::UpdateForever | Job::SeekAbsForever | Job::LongestWalk => Loop::Forever,
+            Job::UpdatePingPong | Job::SeekPingPong => Loop::PingPong,
+            _ => Loop::Once,
+        }
+    }
 
-fn mode_of(job: u8) -> Loop {
-    match job {
-        2 => Loop::Forever,
-        3 => Loop::PingPong,
-        5 => Loop::Forever,
-        6 => Loop::PingPong,
-        8 => Loop::Forever,
-        _ => Loop::Once,
+    // The step of a job that updates. The walk's is three units in the last place of the second from which it goes.
+    pub(crate) fn step(self, base: f32, turns: u32) -> f32 {
+        match self {
+            Job::UpdateOnceSmall => base / float32::from_u32(turns) * 0.9,
+            Job::UpdateOnceTenths => base * 0.1,
+            Job::LongestWalk => 0.09375,
+            _ => base,
+        }
+    }
+
+    // The second from which it goes.
+    pub(crate) fn first(self) -> f32 {
+        match self {
+            Job::LongestWalk => float32::from_bits(0x48ed_ebf1),
+            _ => 0.0,
+        }
+    }
+
+    // Entries that start one after another and overlap. For the longest walk they are so short that an update by three units in the
+    // last place goes over 642 cycles, 385 of them without a completion, before it is known that they outnumber a list of 256.
+    pub(crate) fn built(self, entries: u8) -> Timeline {
+        let mut t = Timeline::new().looping(self.mode());
+        for i in 0..entries {
+            let at = float32::from_u32(u32::from(i));
+            if let Ok(added) = t.add(b"item", self.placed(at), self.lasting(at)) {
+                t = added;
+            }
+        }
+        t
+    }
+
+    fn placed(self, at: f32) -> At {
+        match self {
+            Job::LongestWalk => At::Start,
+            _ => At::Absolute(at * 0.05),
+        }
+    }
+
+    fn lasting(self, at: f32) -> f32 {
+        match self {
+            Job::LongestWalk => float32::from_bits(0x38ed_eecc),
+            _ => 1.0 + at * 0.01,
+        }
     }
 }
 
-// The step of a job that updates.
-pub(crate) fn step(job: u8, base: f32, turns: u32) -> f32 {
-    match job {
-        0 => base / float32::from_u32(turns) * 0.9,
-        1 => base * 0.1,
-        8 => THREE_UNITS,
-        _ => base,
-    }
-}
-
-// The second from which a job goes.
-pub(crate) fn first(job: u8) -> f32 {
-    if job == WALK {
-        float32::from_bits(0x48ed_ebf1)
-    } else {
-        0.0
-    }
-}
-
-// Entries that start one after another and overlap. For the longest walk they are so short that an update by three units in the
-// last place goes over 642 cycles, 385 of them without a completion, before it is known that they outnumber a list of 256.
-pub(crate) fn built(job: u8, entries: u8) -> Timeline {
-    let mut t = Timeline::new().looping(mode_of(job));
-    let mut i = 0u8;
-    while i < entries {
-        let at = float32::from_u32(i as u32);
-        let added = t.add(b"item", placed(job, at), lasting(job, at));
-        t = added.timeline;
-        i += 1;
-    }
-    t
-}
-
-fn placed(job: u8, at: f32) -> At {
-    if job == WALK {
-        At::Start
-    } else {
-        At::Absolute(at * 0.05)
-    }
-}
-
-fn lasting(job: u8, at: f32) -> f32 {
-    if job == WALK {
-        float32::from_bits(0x38ed_eecc)
-    } else {
-        1.0 + at * 0.01
-    }
-}
-
-// Whole timelines, built again and again: as many entries as turns.
+// The base of whole timelines, built again and again: as many entries as turns.
 pub(crate) fn adds(entries: u8, turns: u32) -> f32 {
-    let times = divided(turns, entries);
-    let mut base = 0.0f32;
-    let mut i = 0u32;
-    while i < times {
-        base = built(ADD, entries).duration();
-        i += 1;
+    let times = turns.checked_div(u32::from(entries)).unwrap_or(0);
+    let mut base = 0.0;
+    for _ in 0..times {
+        base = Job::Add.built(entries).duration();
     }
     base
 }
 
-fn divided(turns: u32, entries: u8) -> u32 {
-    if entries == 0 {
-        0
-    } else {
-        turns / (entries as u32)
-    }
+// The share of a run to which a turn seeks: they go through its thousandths.
+pub(crate) fn share(turn: u32) -> f32 {
+    float32::from_u32(turn % 1000) * 0.001
 }

@@ -11,8 +11,9 @@ mod in_place;
 mod jobs;
 mod rows;
 
+use jobs::Job;
 use std::io::Print;
-use streams::read_to;
+use streams::read_full;
 
 const INPUT: usize = 6;
 
@@ -26,39 +27,28 @@ pub struct Came {
 fn main(rt: HostRuntime) {
     let mut stdin = rt.stdin();
     let mut input = [0u8; INPUT];
-    let got = read_to(&mut stdin, &mut input, 0, INPUT);
+    let got = read_full(&mut stdin, &mut input);
     if got.count < INPUT {
         return;
     }
-    let turns = word(&input);
-    let came = come_to(input[0], input[1], turns);
+    let [number, entries, a, b, c, d] = input;
+    let came = come_to(number, entries, u32::from_le_bytes([a, b, c, d]));
     let mut line = *b"........ ........\n";
     digits::put_hex8(float32::to_bits(came.time), &mut line, 0);
     digits::put_hex8(came.seen, &mut line, 9);
     rt.stdout().write_all(&line).is_ok();
 }
 
-fn word(input: &[u8; INPUT]) -> u32 {
-    let low = digits::wide(input[2]) + digits::wide(input[3]) * 256;
-    let high = digits::wide(input[4]) + digits::wide(input[5]) * 256;
-    low + high * 65_536
-}
-
 fn come_to(number: u8, entries: u8, turns: u32) -> Came {
-    let job = number % 10;
-    if job == jobs::ADD {
-        return Came {
-            time: jobs::adds(entries, turns),
-            seen: 0,
-        };
+    let job = Job::from_number(number);
+    let unseen = |time| Came { time, seen: 0 };
+    if matches!(job, Job::Add) {
+        return unseen(jobs::adds(entries, turns));
     }
-    let t = jobs::built(job, entries);
+    let t = job.built(entries);
     if number < 20 {
         in_place::come_to(t, job, number > 9, turns)
     } else {
-        Came {
-            time: by_value::come_to(t, job, turns),
-            seen: 0,
-        }
+        unseen(by_value::come_to(t, job, turns))
     }
 }

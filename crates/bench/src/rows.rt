@@ -1,22 +1,55 @@
-// What is seen of the rows and the list. What nobody looks at would not be written: the compiler would leave that out. One look, after
-// the last call, keeps the writing of every call.
+// What is written, and what is seen of it. What nobody looks at would not be written: the compiler would leave that out. One look,
+// after the last call, keeps the writing of every call.
+use steps::MAX_ENTRIES;
+use track::rows::Rows;
 
-// Whether a row is one that a call can send.
-pub(crate) fn is_row(kind: u8, amount: f32, place: f32) -> bool {
-    if kind > 13 {
-        return false;
+// Room for the rows of a call.
+#[derive(Drop)]
+pub(crate) struct Sent {
+    kinds: [u8; MAX_ENTRIES],
+    amounts: [f32; MAX_ENTRIES],
+    places: [f32; MAX_ENTRIES],
+}
+
+impl Sent {
+    pub(crate) fn new() -> Sent {
+        Sent {
+            kinds: [0; MAX_ENTRIES],
+            amounts: [0.0; MAX_ENTRIES],
+            places: [0.0; MAX_ENTRIES],
+        }
     }
-    if amount >= 0.0 { place <= 1.0 } else { false }
+
+    pub(crate) fn lend(&mut self) -> Rows<'_> {
+        let Sent {
+            kinds,
+            amounts,
+            places,
+        } = self;
+        Rows {
+            kinds,
+            amounts,
+            places,
+        }
+    }
+}
+
+// Whether the first row is one that a call can send.
+pub(crate) fn is_sent(rows: &Rows<'_>) -> bool {
+    rows.kinds.first().is_some_and(|kind| *kind <= 13)
+        && rows.amounts.first().is_some_and(|amount| *amount >= 0.0)
+        && rows.places.first().is_some_and(|place| *place <= 1.0)
 }
 
 // Whether a list of this many entries can start so; one that was not written starts with 0.
-pub(crate) fn is_listed(first: u8, entries: usize) -> bool {
-    (first as usize) <= entries
+pub(crate) fn is_listed(list: &[u8], entries: usize) -> bool {
+    list.first()
+        .is_some_and(|entry| usize::from(*entry) <= entries)
 }
 
 // A row, as it goes into the sum.
 fn bits_of(kind: u8, amount: f32, place: f32) -> u32 {
-    (kind as u32) ^ float32::to_bits(amount) ^ (float32::to_bits(place) << 1)
+    u32::from(kind) ^ float32::to_bits(amount) ^ (float32::to_bits(place) << 1)
 }
 
 // What was seen before, shifted as a checksum does, so that what is seen twice does not cancel out.
@@ -29,32 +62,11 @@ fn shifted(seen: u32) -> u32 {
 }
 
 // A sum of the rows of n entries with what was seen before.
-fn sum(n: usize, kinds: &[u8], amounts: &[f32], places: &[f32], before: u32) -> u32 {
-    let rows = steps::least(
-        n,
-        steps::least(kinds.len(), steps::least(amounts.len(), places.len())),
-    );
+pub(crate) fn sum(n: usize, rows: &Rows<'_>, before: u32) -> u32 {
+    let rows = rows.kinds.iter().zip(&*rows.amounts).zip(&*rows.places);
     let mut seen = shifted(before);
-    let mut i = 0usize;
-    while i < rows {
-        seen = seen ^ bits_of(kinds[i], amounts[i], places[i]);
-        i += 1;
+    for ((kind, amount), place) in rows.take(n) {
+        seen ^= bits_of(*kind, *amount, *place);
     }
     seen
-}
-
-// That sum, where a job looks at its rows after every call.
-pub(crate) fn look(
-    looks: bool,
-    n: usize,
-    kinds: &[u8],
-    amounts: &[f32],
-    places: &[f32],
-    before: u32,
-) -> u32 {
-    if looks {
-        sum(n, kinds, amounts, places, before)
-    } else {
-        before
-    }
 }

@@ -9,7 +9,12 @@ use borrow.Author.Tests.{le-leb, lt-leb}
 use lib.ListN.{length, take, drop, length-drop}
 use lib.Seq.{take_all, drop-drop}
 use Rattle.digits.specs.Digits.{put_at}
+use Rattle.completions.specs.declared.Spans.{Spans}
+use Rattle.track.specs.declared.rows.Rows.{Rows}
+use Rattle.track.specs.Answers.{SameSlices}
+use Rattle.track.specs.Columns.{track_of}
 use Rattle.call_log.specs.declared.Log.{Log}
+use Rattle.call_log.specs.declared.Turn.{Turn}
 use Rattle.call_log.specs.declared.Ran.{Ran}
 use Rattle.call_log.specs.Lines.{line_size, Wrote}
 use Rattle.call_log.specs.Logs.{call_size}
@@ -85,6 +90,14 @@ module _ (ended : Bool) where
         go (suc k) = rw e
 
 -- ---- the loop
+
+-- a log whose track plays in columns
+abbrev pub log_in : Turn → Bool → Spans → List Bool → Log
+log_in turn logging spans ms = record { number = turn.number; logging = logging; track = track_of turn.head spans.starts.now spans.durations.now ms }
+
+-- the same slices, twice
+pub then_slices : {r s t : Rows} → SameSlices r s → SameSlices s t → SameSlices r t
+then_slices a b = record { kinds = b.kinds ∙ a.kinds; amounts = b.amounts ∙ a.amounts; places = b.places ∙ a.places }
 
 -- So far: lines were written, and the whole batch is these and what is still to come.
 pub record SoFar (ended : Bool) (log₀ : Log) (bytes old out : List ℕ) (log : Log) (used len : ℕ) : Type 0 where

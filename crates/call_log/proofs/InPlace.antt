@@ -144,14 +144,14 @@ gathered k h ss ds ms e l =
 
 -- the calls of a batch run in columns of 64, in which the whole track was laid out: what is gathered is what the batch leaves of it
 pub runs_whole : (ended : Bool) (log : Log) (bytes old new : List ℕ) {q g : Track} (h : Playhead) (ss ds : List Float) (ms : List Bool) (r : Ran) → q ≡ trimmed log.track
-    → RunsTo (batch_of ended (record { number = log.number; logging = log.logging; track = q }) bytes (length old)) r (record { number = r.number; logging = log.logging; track = track_of h ss ds ms }) old new
+    → RunsTo (batch_of ended (record { number = log.number; logging = log.logging; track = q }) bytes (length old)) r (record { number = r.turn.number; logging = log.logging; track = track_of h ss ds ms }) old new
     → g ≡ laid_over log.track (track_of h ss ds ms) → 64 ≡ length ss
-    → (record { used = r.used; len = r.len; log = record { number = r.number; logging = log.logging; track = record { count = log.track.count; entries = g.entries; clock = g.clock; looping = g.looping } } } ≡ batched_by (batch_of ended log bytes (length old)))
+    → (record { used = r.used; len = r.len; log = record { number = r.turn.number; logging = log.logging; track = record { count = log.track.count; entries = g.entries; clock = g.clock; looping = g.looping } } } ≡ batched_by (batch_of ended log bytes (length old)))
     × (new ≡ lined (batch_of ended log bytes (length old)).text old)
 runs_whole ended log bytes old new {q} {g} h ss ds ms r laid runs eg size =
     let k = log.track in
     let b = batch_of ended (record { number = log.number; logging = log.logging; track = trimmed k }) bytes (length old) in
-    let left : Log = record { number = r.number; logging = log.logging; track = track_of h ss ds ms } in
+    let left : Log = record { number = r.turn.number; logging = log.logging; track = track_of h ss ds ms } in
     let own : RunsTo b r left old new = subst (λ (t : Track). RunsTo (batch_of ended (record { number = log.number; logging = log.logging; track = t }) bytes (length old)) r left old new) laid runs in
     let track : record { count = k.count; entries = g.entries; clock = g.clock; looping = g.looping } ≡ put_back k (track_of h ss ds ms) = gathered k h ss ds ms eg size in
     rw (batch_back ended log bytes (length old), track, own.used, own.len)

@@ -1,22 +1,17 @@
 -- The sheet of an input: when it is cut, and its number.
 use Prim.Native.Nat.{ℕ, ◌+◌, ◌-◌, ◌≤◌}
 use mathlib.Core.Path.{◌≡◌, refl}
-use mathlib.Core.Bool.{Bool, true, false, ◌||◌}
+use mathlib.Core.Bool.{true, false}
 use mathlib.Core.List.{List}
 use native.Mathlib.Omega.{arith}
 use borrow.Author.Tests.{le-ltb, ltb-false, eq-eqb, ne_eqb}
 use lib.ListN.{length, take, drop}
 use Rattle.words.specs.Words.{word}
 use Rattle.sheet.specs.Build.{reading_of}
+use Rattle.script.proofs.Making.{or-false}
 use Rattle.call_log.specs.Lines.{Refused}
 use Rattle.call_log.specs.Logs.{is_cut, sheet_in, sheet_number, sheet_line, track_in}
 use Rattle.call_log.specs.Machine.{sheet_room, closed_log, new_log, open_line, open_log}
-
--- ---- tests
-
-pub or_no : (a b : Bool) → a || b ≡ false → (a ≡ false) × (b ≡ false)
-or_no true b e = let z : ◌≡◌ {A = ℕ} 0 1 = cc in absurd (omega arith)
-or_no false b e = (refl, e)
 
 -- what holds of an input that is not cut
 pub record Whole (input : List ℕ) : Type 0 where
@@ -27,8 +22,8 @@ pub record Whole (input : List ℕ) : Type 0 where
 pub uncut : (input : List ℕ) → is_cut input ≡ false → Whole input
 unfolding is_cut
 uncut input e =
-    let a = or_no _ _ e in
-    let b = or_no _ _ a.1 in
+    let a = or-false _ _ e in
+    let b = or-false _ _ a.1 in
     record { some = ltb-false _ _ a.0; few = ltb-false _ _ b.0; fits = ltb-false _ _ b.1 }
 
 -- the sheet's length is wanted

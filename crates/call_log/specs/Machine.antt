@@ -1,15 +1,23 @@
 -- What the functions of this crate answer. Definitions only.
-use Rattle.std.specs.Prelude.{ℕ, zero, suc, ◌+◌, ◌-◌, ◌≤◌, ◌≡◌, Bool, true, false, cond, not, ◌||◌, ◌&&◌, List, [], ◌∷◌, ◌++◌, eqb, ltb, leb, length, take, drop, Float}
-use Rattle.refusal.specs.Refusal.{accepted}
+use Rattle.std.specs.Prelude.{ℕ, zero, suc, ◌+◌, ◌-◌, ◌≤◌, ◌≡◌, Bool, true, false, cond, not, ◌||◌, ◌&&◌, List, [], ◌∷◌, ◌++◌, eqb, ltb, leb, length, take, drop, Option, Some, None, Result}
+use Rattle.refusal.specs.declared.Refusal.{Refusal}
+use Rattle.refusal.specs.Refusal.{accepted, bad_call, number_if, number_in}
 use Rattle.digits.specs.Digits.{put_at}
+use Rattle.completions.specs.declared.Spans.{Spans}
+use Rattle.track.specs.declared.rows.Rows.{Rows}
 use Rattle.track.specs.declared.track.Track.{Track}
 use Rattle.track.specs.declared.track.Playhead.{Playhead}
 use Rattle.steps.specs.Times.{max_entries}
 use Rattle.track.specs.Tracks.{empty_track}
 use Rattle.track.specs.Columns.{track_of}
-use Rattle.track.specs.Answers.{Lent, LentMut, seen, lent_track}
+use Rattle.track.specs.Calls.{track_silent}
+use Rattle.track.specs.Answers.{LentMut, LentRows, SameSlices, seen, lent_track, left_track}
+use Rattle.script.specs.declared.Made.{Made}
+use Rattle.script.specs.Scripts.{left_by, MadeBy}
 use Rattle.words.specs.Words.{word}
 use Rattle.call_log.specs.declared.Log.{Log}
+use Rattle.call_log.specs.declared.Call.{Call}
+use Rattle.call_log.specs.declared.Turn.{Turn}
 use Rattle.call_log.specs.declared.Opened.{Opened}
 use Rattle.call_log.specs.declared.Logged.{Logged}
 use Rattle.call_log.specs.declared.Ran.{Ran}
@@ -19,17 +27,29 @@ use Rattle.call_log.specs.Logs.{max_sheet, length_size, sheet_number, sheet_line
 
 -- ---- a call
 
--- what is lent to a call: the replies, a list, and row slices with room for all entries
-pub record Lends (rs l k : List ℕ) (a p : List Float) : Type 0 where
+-- row slices with room for all entries
+pub record Roomy (rows : Rows) : Type 0 where
+  pub kinds : length rows.kinds.now ≡ max_entries
+  pub amounts : length rows.amounts.now ≡ max_entries
+  pub places : length rows.places.now ≡ max_entries
+
+-- what is lent to a call: the replies, a list, and row slices
+pub record Lends (rs l : List ℕ) (r : Rows) : Type 0 where
   pub ones : rs ≡ replies
   pub list : length l ≡ list_size
-  pub kinds : length k ≡ max_entries
-  pub amounts : length a ≡ max_entries
-  pub places : length p ≡ max_entries
+  pub rows : Roomy r
 
--- these bytes make the call of this byte with this f32, whatever plays
-abbrev pub MakesCall : List ℕ → ℕ → Float → Type 0
-MakesCall rest byte x = (k : Track) → outcome_at k rest ≡ outcome k byte x
+-- the call that these bytes make, whatever plays: one that is none is refused
+abbrev pub CallAt : List ℕ → Option Call → Type 0
+CallAt rest (Some call) = (k : Track) → outcome_at k rest ≡ outcome k call.byte call.x
+CallAt rest None = (k : Track) → outcome_at k rest ≡ track_silent bad_call k
+
+-- the call at the front of the script, made in place, answers r; the row slices are the same, with room as before
+abbrev pub MadeAt : Playhead → Spans → LentMut Bool → List ℕ → Result Made Refusal → LentMut ℕ → LentRows → Type 0
+MadeAt head spans marks rest r list rows =
+    SameSlices rows.entry.now rows.exit.now
+    × MadeBy (outcome_at (lent_track head spans (seen marks)) rest) (number_in r) (left_by head r).listed (left_track head (left_by head r).clock spans marks)
+    list.entry.now list.exit.now rows.entry.now.kinds.now rows.exit.now.kinds.now rows.entry.now.amounts.now rows.exit.now.amounts.now rows.entry.now.places.now rows.exit.now.places.now
 
 -- ---- `open`
 
@@ -52,8 +72,16 @@ open_line input = cond (eqb (sheet_number input) accepted) (sheet_line (track_in
 unfoldable pub open_log : List ℕ → Log
 open_log input = cond (eqb (sheet_number input) accepted) (new_log (track_in input)) closed_log
 
--- the answer of `open`
-abbrev pub opened_by : List ℕ → Opened
+-- the answer of `open`, with the number by which the sheet is refused
+pub record NumberedOpened : Type 0 where
+  pub len : ℕ
+  pub refusal : ℕ
+  pub log : Log
+
+abbrev pub numbered_opened : Opened → NumberedOpened
+numbered_opened r = record { len = r.len; refusal = number_if r.refusal; log = r.log }
+
+abbrev pub opened_by : List ℕ → NumberedOpened
 opened_by input = record { len = length (shown (open_line input)); refusal = sheet_number input; log = open_log input }
 
 -- ---- `next`
@@ -84,13 +112,13 @@ abbrev pub next_bytes : Log → List ℕ → List ℕ
 next_bytes log rest = shown_all (next_lines log rest)
 
 -- a log whose track plays in the lent columns
-abbrev pub lent_log : ℕ → Bool → Playhead → Lent Float → Lent Float → LentMut Bool → Log
-lent_log number logging head starts durations marks = record { number = number; logging = logging; track = lent_track head starts durations (seen marks) }
+abbrev pub lent_log : Turn → Bool → Spans → LentMut Bool → Log
+lent_log turn logging spans marks = record { number = turn.number; logging = logging; track = lent_track turn.head spans (seen marks) }
 
 -- and the log that is left in them
-abbrev pub left_log : ℕ → Bool → Playhead → Lent Float → Lent Float → LentMut Bool → Log
-left_log number logging head starts durations marks =
-    record { number = number; logging = logging; track = track_of head starts.entry.now durations.entry.now marks.exit.now }
+abbrev pub left_log : Turn → Bool → Spans → LentMut Bool → Log
+left_log turn logging spans marks =
+    record { number = turn.number; logging = logging; track = track_of turn.head spans.starts.now spans.durations.now marks.exit.now }
 
 -- `next`: its answer, the log that is left, and the lent array before and after
 pub record LogsTo (before : Log) (rest : List ℕ) (r : Logged) (left : Log) (at : ℕ) (old new : List ℕ) : Type 0 where

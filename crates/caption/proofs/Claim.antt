@@ -19,13 +19,12 @@ use Rattle.sheet_format.specs.Check.{count_in, header_number, record_number, rec
 use Rattle.refusal.proofs.Checks.{passed_good, in_turn_lem}
 use Rattle.sheet_format.proofs.Accepted.{accepted-sheet}
 use Rattle.caption.specs.declared.finder.Source.TheVariants.{Sheet, List as Venue}
-use Rattle.caption.specs.declared.finder.Caption.{Caption}
-use Rattle.caption.specs.declared.finder.Match.{Match}
-use Rattle.caption.specs.Captions.{codes_in, pairs_in, text_at, code_size, list_number, first_match, label_pair, label_in, caption_number, shown_from, shown_by, caption_of, named}
+use Rattle.std.specs.Prelude.{Option, Some, None}
+use Rattle.caption.specs.Captions.{Answer, codes_in, pairs_in, text_at, code_size, list_number, first_match, label_pair, label_in, caption_number, shown_from, shown_by, caption_of, named}
 use Rattle.caption.specs.Cases.{Worked}
 use Rattle.caption.specs.Claim.{code_pairs, code_at, First, Holds, Claim}
 use Rattle.caption.proofs.Numbers.{accepted-by, refused-by}
-use Rattle.caption.proofs.Inside.{match_inside}
+use Rattle.caption.proofs.Inside.{Fits, match_inside}
 use Rattle.caption.proofs.Labels.{label_of_lem}
 use Rattle.caption.proofs.First.{code_pairs_from, finds, finds-none}
 
@@ -43,7 +42,7 @@ module _ (list sheet : List ℕ) (entry : ℕ) where
       let b = in_turn_lem _ _ a.1 in
       record { sheet-good = a.0; list-good = b.0; below = ltb-true _ _ (passed_good (ltb entry (count_in sheet)) 15 _ b.1).0 }
 
-  abbrev match : Match
+  abbrev match : Option Pair
   match = first_match list (label_in sheet entry) (codes_in list) (pairs_in list)
 
   abbrev own : Pair
@@ -57,34 +56,34 @@ module _ (list sheet : List ℕ) (entry : ℕ) where
   wins e k f =
       let same : part_of list (code_pairs_from list (label_in sheet entry) (pairs_in list) k) ≡ label_in sheet entry = ap (λ (p : List ℕ). part_of list p) (pairs_of k) ∙ f.equal in
       let found = finds list (label_in sheet entry) (codes_in list) (pairs_in list) k f.below same (λ j h q. f.earliest j h (ap (λ (p : List ℕ). part_of list p) (sym (pairs_of j)) ∙ q)) in
-      sym (accepted-by list sheet entry e) ∙ ap (λ (m : Match). shown_by m own) found ∙ ap (λ (p : List ℕ). shown_from Venue (pair_in (drop pair_size p))) (pairs_of k)
+      sym (accepted-by list sheet entry e) ∙ ap (λ (m : Option Pair). shown_by m own) found ∙ ap (λ (p : List ℕ). shown_from Venue (pair_in (drop pair_size p))) (pairs_of k)
 
   itself : caption_number list sheet entry ≡ accepted → ((k : ℕ) → k < codes_in list → code_at list k ≡ label_in sheet entry → ⊥) → caption_of list sheet entry ≡ shown_from Sheet own
   itself e d =
       let found = finds-none list (label_in sheet entry) (codes_in list) (pairs_in list) (λ k h q. d k h (ap (λ (p : List ℕ). part_of list p) (sym (pairs_of k)) ∙ q)) in
-      sym (accepted-by list sheet entry e) ∙ ap (λ (m : Match). shown_by m own) found
+      sym (accepted-by list sheet entry e) ∙ ap (λ (m : Option Pair). shown_by m own) found
 
   -- a part that lies inside the slice that is named
-  abbrev Fits : Caption → Type 0
-  Fits c = c.at + c.len ≤ length (named c.source list sheet)
+  abbrev Inside : Answer → Type 0
+  Inside c = c.at + c.len ≤ length (named c.source list sheet)
 
   label_fits_lem : Good → own.offset + own.len ≤ length sheet
   label_fits_lem g =
       let s = accepted-sheet sheet g.sheet-good in
       rw (← drop-drop (pair_size * entry) header_size sheet) (inside label_fits 10 6 (length sheet) (labels_at (count_in sheet)) (count_in sheet) (drop header_size sheet) s.pairs entry g.below)
 
-  words-fit : Good → match.found ≡ true → match.words.offset + match.words.len ≤ length list
+  words-fit : Good → Fits (length list) match
   unfolding list_number
-  words-fit g f = match_inside list (label_in sheet entry) (length list) (text_at (codes_in list)) (codes_in list) (pairs_in list) g.list-good f
+  words-fit g = match_inside list (label_in sheet entry) (length list) (text_at (codes_in list)) (codes_in list) (pairs_in list) g.list-good
 
-  shown-fits : (b : Bool) → match.found ≡ b → Good → Fits (cond b (shown_from Venue match.words) (shown_from Sheet own))
-  shown-fits true e g = words-fit g e
-  shown-fits false e g = label_fits_lem g
+  shown-fits : (m : Option Pair) → Fits (length list) m → Good → Inside (shown_by m own)
+  shown-fits (Some words) f g = f
+  shown-fits None f g = label_fits_lem g
 
-  lies : (b : Bool) → eqb (caption_number list sheet entry) accepted ≡ b → Fits (caption_of list sheet entry)
+  lies : (b : Bool) → eqb (caption_number list sheet entry) accepted ≡ b → Inside (caption_of list sheet entry)
   lies true e =
       let n = eqb-true _ _ e in
-      rw (← accepted-by list sheet entry n) (shown-fits match.found refl (good n))
+      rw (← accepted-by list sheet entry n) (shown-fits match (words-fit (good n)) (good n))
   lies false e = rw (← refused-by list sheet entry _ refl (eqb-false _ _ e)) (omega arith)
 
   holds : Holds list sheet entry

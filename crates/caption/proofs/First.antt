@@ -9,6 +9,7 @@ use lib.ListN.{drop}
 use lib.Seq.{drop-drop}
 use Rattle.label.specs.Label.{same_text}
 use Rattle.label.proofs.SameText.{eq-same, same_true}
+use Rattle.std.specs.Prelude.{Some}
 use Rattle.words.specs.Pairs.{pair_size, pair_in, part_of}
 use Rattle.caption.specs.Captions.{code_size, no_match, first_match}
 
@@ -32,7 +33,7 @@ module _ (list label : List ℕ) where
 
   -- a code of k, with none equal before it, is found
   pub finds : (k : ℕ) (pairs : List ℕ) (i : ℕ) → i < k → part_of list (code_pairs_from pairs i) ≡ label → ((j : ℕ) → j < i → part_of list (code_pairs_from pairs j) ≡ label → ⊥)
-      → first_match list label k pairs ≡ record { found = true; words = pair_in (drop pair_size (code_pairs_from pairs i)) }
+      → first_match list label k pairs ≡ Some (pair_in (drop pair_size (code_pairs_from pairs i)))
   unfolding first_match
   finds zero pairs i h e d = absurd (not-suc-le-zero h)
   finds (suc k) pairs zero h e d = rw (eq-same (part_of list pairs) label e)
@@ -40,7 +41,7 @@ module _ (list label : List ℕ) where
       let n = next pairs i in
       let other = unlike pairs (d 0 (suc-le-suc zero-le)) in
       let rest = finds k (drop code_size pairs) i (le_of_suc-le-suc h) (ap (λ (p : List ℕ). part_of list p) n ∙ e) (λ j g q. d (suc j) (suc-le-suc g) (ap (λ (p : List ℕ). part_of list p) (sym (next pairs j)) ∙ q)) in
-      rw other (rest ∙ ap (λ (p : List ℕ). record { found = true; words = pair_in (drop pair_size p) }) n)
+      rw other (rest ∙ ap (λ (p : List ℕ). Some (pair_in (drop pair_size p))) n)
 
   -- no code of k is equal: nothing is found
   pub finds-none : (k : ℕ) (pairs : List ℕ) → ((i : ℕ) → i < k → part_of list (code_pairs_from pairs i) ≡ label → ⊥) → first_match list label k pairs ≡ no_match

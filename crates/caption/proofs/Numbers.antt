@@ -6,12 +6,13 @@ use mathlib.Core.List.{List}
 use native.Mathlib.Omega.{arith}
 use borrow.Author.Tests.{ne_eqb, eqb-false, lt-ltb, le-ltb}
 use lib.Dec.{eqb}
-use Rattle.refusal.specs.Refusal.{accepted, bad_caption, in_turn}
+use Rattle.refusal.specs.Refusal.{accepted, bad_caption, in_turn, number, number_in}
+use Rattle.refusal.proofs.Numbers.{number-not}
 use Rattle.words.specs.declared.Pair.{Pair}
 use Rattle.words.specs.Pairs.{pair_in}
 use Rattle.sheet_format.specs.Check.{count_in, check_number}
-use Rattle.caption.specs.declared.finder.Match.{Match}
-use Rattle.caption.specs.declared.finder.LookUp.{LookUp}
+use Rattle.std.specs.Prelude.{Option, Result, Ok, Err}
+use Rattle.refusal.specs.declared.Refusal.{Refusal}
 use Rattle.caption.specs.Captions.{looked_up, codes_in, pairs_in, list_number, first_match, label_pair, label_in, caption_number, refused_caption, shown_by, caption_of}
 use Rattle.caption.proofs.Turns.{list_number_lem, looked_number, looked_first}
 
@@ -49,25 +50,23 @@ module _ (list sheet : List ℕ) (entry : ℕ) where
   unfolding caption_number
   all-good e f h = rw (e, f, lt-ltb entry (count_in sheet) h)
 
-  -- ---- what the checks and the pass found
+  -- ---- what the checks and the pass answered
 
-  pub sheet-refuses : (number : ℕ) → number ≡ check_number sheet → (number ≡ accepted → ⊥) → refused_caption number ≡ caption_of list sheet entry
-  sheet-refuses number e d = refused-by number (sheet-bad (λ h. d (e ∙ h)) ∙ sym e) d
+  pub sheet-refuses : (r : Refusal) → number r ≡ check_number sheet → refused_caption (number r) ≡ caption_of list sheet entry
+  sheet-refuses r e = refused-by (number r) (sheet-bad (λ h. number-not r (e ∙ h)) ∙ sym e) (number-not r)
 
   pub entry-refuses : check_number sheet ≡ accepted → count_in sheet ≤ entry → refused_caption bad_caption ≡ caption_of list sheet entry
   entry-refuses e h = refused-by bad_caption (entry-bad e h) (λ z. absurd (omega arith))
 
-  module _ (look : LookUp) (label : List ℕ) (ok : check_number sheet ≡ accepted) (is : look ≡ looked_up list label) where
-    -- the number that the pass found is the list's
-    number : look.refusal ≡ list_number list
-    number = ap (λ (l : LookUp). l.refusal) is ∙ looked_number list label
+  module _ (label : List ℕ) (ok : check_number sheet ≡ accepted) where
+    pub list-refuses : (r : Refusal) → Err r ≡ looked_up list label → refused_caption (number r) ≡ caption_of list sheet entry
+    list-refuses r is =
+        let n : number r ≡ list_number list = ap (λ (l : Result (Option Pair) Refusal). number_in l) is ∙ looked_number list label in
+        refused-by (number r) (list-bad ok (λ h. number-not r (n ∙ h)) ∙ sym n) (number-not r)
 
-    pub list-refuses : (look.refusal ≡ accepted → ⊥) → refused_caption look.refusal ≡ caption_of list sheet entry
-    list-refuses d = refused-by look.refusal (list-bad ok (λ h. d (number ∙ h)) ∙ sym number) d
-
-    module _ (own : Pair) (good : look.refusal ≡ accepted) (below : entry < count_in sheet) (names : label ≡ label_in sheet entry) (pair : own ≡ pair_in (label_pair sheet entry)) where
-      pub shown : shown_by look.first own ≡ caption_of list sheet entry
-      shown =
-          let fine = sym number ∙ good in
-          let first = ap (λ (l : LookUp). l.first) is ∙ looked_first list label fine ∙ ap (λ (l : List ℕ). first_match list l (codes_in list) (pairs_in list)) names in
-          ap (λ (m : Match). shown_by m own) first ∙ ap (λ (p : Pair). shown_by (first_match list (label_in sheet entry) (codes_in list) (pairs_in list)) p) pair ∙ accepted-by (all-good ok fine below)
+    pub shown-by : (first : Option Pair) → Ok first ≡ looked_up list label → entry < count_in sheet → label ≡ label_in sheet entry → shown_by first (pair_in (label_pair sheet entry)) ≡ caption_of list sheet entry
+    shown-by first is below names =
+        let fine : list_number list ≡ accepted = sym (looked_number list label) ∙ ap (λ (l : Result (Option Pair) Refusal). number_in l) (sym is) in
+        let found : Ok first ≡ Ok (first_match list label (codes_in list) (pairs_in list)) = is ∙ looked_first list label fine in
+        let same : first ≡ first_match list label (codes_in list) (pairs_in list) = cc in
+        ap (λ (m : Option Pair). shown_by m (pair_in (label_pair sheet entry))) (same ∙ ap (λ (l : List ℕ). first_match list l (codes_in list) (pairs_in list)) names) ∙ accepted-by (all-good ok fine below)

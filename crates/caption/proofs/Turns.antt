@@ -6,14 +6,19 @@ use mathlib.Core.List.{List}
 use native.Mathlib.Omega.{arith}
 use borrow.Author.Tests.{eq-eqb, ne_eqb, eqb-true, eqb-false}
 use lib.Dec.{eqb}
-use lib.ListN.{length, drop}
+use lib.ListN.{length, drop, get_or}
+use mir.Syntax.{w8}
+use mir.Val.{Fits}
+use Rattle.words.proofs.Bytes.{Bytes, bytes_drop, word_small}
 use lib.Seq.{drop-drop}
-use Rattle.refusal.specs.Refusal.{accepted, bad_caption}
+use Rattle.refusal.specs.Refusal.{accepted, bad_caption, number_in}
 use Rattle.label.specs.Label.{same_text}
 use Rattle.words.specs.declared.Pair.{Pair}
 use Rattle.words.specs.Pairs.{pair_size, offset_in, length_in, pair_in, part_by, part_of, pairs_in_turn}
-use Rattle.caption.specs.declared.finder.Match.{Match}
-use Rattle.caption.specs.Captions.{codes_in, pairs_in, code_size, text_at, any_length, list_number, no_match, matched, match_in, earlier, first_match, looked_up, refused_look_up}
+use Rattle.std.specs.Prelude.{is_some, Option, Some, None, Result, Ok, Err}
+use Rattle.refusal.specs.declared.Refusal.{Refusal}
+use Rattle.refusal.specs.declared.Refusal.TheVariants.{BadCaption}
+use Rattle.caption.specs.Captions.{codes_in, pairs_in, code_size, text_at, any_length, list_number, no_match, matched, match_in, earlier, first_match, looked_up}
 
 -- ---- the shape
 
@@ -28,6 +33,13 @@ pub record Read (list : List ℕ) (at : ℕ) (code words : Pair) : Type 0 where
 
 pub reads : (list : List ℕ) (at : ℕ) (code words : Pair) → code ≡ pair_in (drop at list) → words ≡ pair_in (drop (at + pair_size) list) → Read list at code words
 reads list at code words e f = record { first = e; second = f }
+
+-- its numbers are of two bytes
+pub small : (list : List ℕ) (at : ℕ) (p : Pair) → ((i : ℕ) → Fits w8 (get_or list i 0)) → p ≡ pair_in (drop at list) → (p.offset < 65536) × (p.len < 65536)
+small list at p b e =
+    let bytes : Bytes list = λ i. omega (arith, b i) in
+    let there = bytes_drop at list bytes in
+    rw e (word_small (drop at list) there, word_small (drop 2 (drop at list)) (bytes_drop 2 (drop at list) there))
 
 module _ (list : List ℕ) (n i offset at : ℕ) (code words : Pair) (read : Read list at code words) (h : i < n) where
   two : 2 * (n - i) ≡ suc (suc (2 * (n - (i + 1))))
@@ -60,11 +72,11 @@ module _ (list : List ℕ) (n i offset at : ℕ) (code words : Pair) (read : Rea
 
   -- both are in turn
   pub in_turn_lem : code.offset ≡ offset → words.offset ≡ offset + code.len
-      → left list offset (2 * (n - i)) at ≡ left list (offset + code.len + words.len) (2 * (n - (i + 1))) (at + code_size)
+      → left list offset (2 * (n - i)) at ≡ left list (words.offset + words.len) (2 * (n - (i + 1))) (at + code_size)
   unfolding pairs_in_turn
   in_turn_lem e f =
       let d : at + pair_size + pair_size ≡ at + code_size = omega arith in
-      rw (two, starts, size, next, starts-words, size-words, eq-eqb code.offset offset e, eq-eqb words.offset (offset + code.len) f, drop-drop pair_size (at + pair_size) list, d)
+      rw (two, starts, size, next, starts-words, size-words, eq-eqb code.offset offset e, eq-eqb words.offset (offset + code.len) f, drop-drop pair_size (at + pair_size) list, d, f)
 
 -- no pair is left
 pub ends : (list : List ℕ) (n i offset at : ℕ) → n ≤ i → offset ≡ length list → left list offset (2 * (n - i)) at ≡ accepted
@@ -81,44 +93,32 @@ ends_not list n i offset at h d =
 
 -- ---- the matches
 
--- what is no match has no words
-abbrev pub Clean : Match → Type 0
-Clean m = m.found ≡ false → m ≡ no_match
+pub earlier-assoc : (a b c : Option Pair) → earlier a (earlier b c) ≡ earlier (earlier a b) c
+earlier-assoc (Some w) b c = refl
+earlier-assoc None b c = refl
 
--- a match with these words
-abbrev with : Bool → Pair → Match
-with found words = record { found = found; words = words }
+pub earlier-none : (a : Option Pair) → earlier a no_match ≡ a
+earlier-none (Some w) = refl
+earlier-none None = refl
 
-pub not-both : {A : Type 0} → true ≡ false → A
-not-both e =
-    let z : ◌≡◌ {A = ℕ} 0 1 = cc in
-    absurd (omega arith)
+-- what a turn does with a code: `none` is whether there is no match so far, `same` whether the code is the label
+module _ (first next : Option Pair) (none same : Bool) (words : Pair) (tests : is_some first ≡ not none) where
+  pub takes : none ≡ true → same ≡ true → next ≡ Some words → next ≡ earlier first (matched same words)
+  takes e f n = empty first (tests ∙ ap not e)
+    where
+      empty : (m : Option Pair) → is_some m ≡ false → next ≡ earlier m (matched same words)
+      empty (Some w) t = cc
+      empty None t = rw f n
 
-pub matched-clean : (b : Bool) (words : Pair) → Clean (matched b words)
-matched-clean true words = λ e. not-both e
-matched-clean false words = λ e. refl
+  pub passes : none ≡ true → same ≡ false → next ≡ first → next ≡ earlier first (matched same words)
+  passes e f n = rw (f, earlier-none first) n
 
--- the first of three
-assoc : (x : Bool) (w : Pair) (b c : Match) → earlier (with x w) (earlier b c) ≡ earlier (earlier (with x w) b) c
-assoc true w b c = refl
-assoc false w b c = refl
-
-pub earlier-assoc : (a b c : Match) → earlier a (earlier b c) ≡ earlier (earlier a b) c
-earlier-assoc a b c = assoc a.found a.words b c
-
-clean : (x : Bool) (w : Pair) (b : Match) → Clean b → Clean (earlier (with x w) b)
-clean true w b h = λ e. not-both e
-clean false w b h = h
-
-pub earlier-clean : (a b : Match) → Clean b → Clean (earlier a b)
-earlier-clean a b h = clean a.found a.words b h
-
-none : (x : Bool) (w : Pair) → Clean (with x w) → earlier (with x w) no_match ≡ with x w
-none true w h = refl
-none false w h = sym (h refl)
-
-pub earlier-none : (a : Match) → Clean a → earlier a no_match ≡ a
-earlier-none a h = none a.found a.words h
+  pub keeps : none ≡ false → next ≡ first → next ≡ earlier first (matched same words)
+  keeps e n = full first (tests ∙ ap not e) n
+    where
+      full : (m : Option Pair) → is_some m ≡ true → next ≡ m → next ≡ earlier m (matched same words)
+      full (Some w) t q = q
+      full None t q = cc
 
 module _ (list label : List ℕ) (n i at : ℕ) where
   pub first_more : i < n → first_match list label (n - i) (drop at list) ≡ earlier (match_in list label (drop at list)) (first_match list label (n - (i + 1)) (drop (at + code_size) list))
@@ -136,62 +136,60 @@ module _ (list label : List ℕ) (n i at : ℕ) where
 -- ---- the pass
 
 -- what holds before code i of n: whether the pairs that are left are in turn, and the first match
-pub record Passed (list label : List ℕ) (n i offset at : ℕ) (first : Match) : Type 0 where
+pub record Passed (list label : List ℕ) (n i offset : ℕ) (first : Option Pair) : Type 0 where
   pub count : n ≡ codes_in list
-  pub shape : list_number list ≡ left list offset (2 * (n - i)) at
-  pub match : first_match list label n (pairs_in list) ≡ earlier first (first_match list label (n - i) (drop at list))
-  pub clean : Clean first
+  pub shape : list_number list ≡ left list offset (2 * (n - i)) (text_at i)
+  pub match : first_match list label n (pairs_in list) ≡ earlier first (first_match list label (n - i) (drop (text_at i) list))
 
-pub begins : (list label : List ℕ) (n : ℕ) (first : Match) → n ≡ codes_in list → first ≡ no_match → Passed list label n 0 (text_at n) 2 first
+pub begins : (list label : List ℕ) (n : ℕ) → n ≡ codes_in list → Passed list label n 0 (text_at n) None
 unfolding list_number
-begins list label n first e f =
+begins list label n e =
     let z : n - 0 ≡ n = omega arith in
-    record { count = e; shape = rw (z, e); match = rw (z, f); clean = λ h. f }
+    record { count = e; shape = rw (z, e); match = rw z }
 
-module _ (list label : List ℕ) (n i offset at : ℕ) (first : Match) (passed : Passed list label n i offset at first) where
-  refused : list_number list ≡ bad_caption → refused_look_up ≡ looked_up list label
+module _ (list label : List ℕ) (n i offset : ℕ) (first : Option Pair) (passed : Passed list label n i offset first) where
+  refused : list_number list ≡ bad_caption → Err BadCaption ≡ looked_up list label
   unfolding looked_up
   refused e = rw e
 
-  module _ (code words : Pair) (read : Read list at code words) (h : i < n) where
-    pub bad-code : (code.offset ≡ offset → ⊥) → refused_look_up ≡ looked_up list label
-    bad-code d = refused (passed.shape ∙ code-late list n i offset at code words read h d)
+  module _ (code words : Pair) (read : Read list (text_at i) code words) (h : i < n) where
+    pub bad-code : (code.offset ≡ offset → ⊥) → Err BadCaption ≡ looked_up list label
+    bad-code d = refused (passed.shape ∙ code-late list n i offset (text_at i) code words read h d)
 
-    pub bad-words : code.offset ≡ offset → (words.offset ≡ offset + code.len → ⊥) → refused_look_up ≡ looked_up list label
-    bad-words e d = refused (passed.shape ∙ words-late list n i offset at code words read h e d)
+    pub bad-words : code.offset ≡ offset → (words.offset ≡ offset + code.len → ⊥) → Err BadCaption ≡ looked_up list label
+    bad-words e d = refused (passed.shape ∙ words-late list n i offset (text_at i) code words read h e d)
 
-    pub more : code.offset ≡ offset → words.offset ≡ offset + code.len → (next : Match) → next ≡ earlier first (matched (same_text (part_by list code) label) words)
-        → Passed list label n (i + 1) (offset + code.len + words.len) (at + code_size) next
+    pub more : code.offset ≡ offset → words.offset ≡ offset + code.len → (next : Option Pair) → next ≡ earlier first (matched (same_text (part_by list code) label) words)
+        → Passed list label n (i + 1) (words.offset + words.len) next
     more e f next p =
-        let d = drop-drop pair_size at list in
+        let at = text_at i in
+        let step : at + code_size ≡ text_at (i + 1) = omega arith in
         let code_is = ap (λ (p : Pair). matched (same_text (part_by list p) label) words) read.first in
         let words_are = ap (λ (w : Pair). matched (same_text (part_of list (drop at list)) label) w) read.second in
-        let here : matched (same_text (part_by list code) label) words ≡ match_in list label (drop at list) = rw d (code_is ∙ words_are) in
+        let here : matched (same_text (part_by list code) label) words ≡ match_in list label (drop at list) = rw (drop-drop pair_size at list) (code_is ∙ words_are) in
         let rest = first_match list label (n - (i + 1)) (drop (at + code_size) list) in
-        let now : next ≡ earlier first (match_in list label (drop at list)) = p ∙ ap (λ (x : Match). earlier first x) here in
-        record {
-          count = passed.count;
-          shape = passed.shape ∙ in_turn_lem list n i offset at code words read h e f;
-          match = passed.match ∙ ap (λ (x : Match). earlier first x) (first_more list label n i at h) ∙ earlier-assoc first (match_in list label (drop at list)) rest ∙ ap (λ (x : Match). earlier x rest) (sym now);
-          clean = rw now (earlier-clean first (match_in list label (drop at list)) (matched-clean (same_text (part_of list (drop at list)) label) (pair_in (drop pair_size (drop at list)))));
-        }
+        let now : next ≡ earlier first (match_in list label (drop at list)) = p ∙ ap (λ (x : Option Pair). earlier first x) here in
+        let shape = passed.shape ∙ in_turn_lem list n i offset at code words read h e f in
+        let match = passed.match ∙ ap (λ (x : Option Pair). earlier first x) (first_more list label n i at h) ∙ earlier-assoc first (match_in list label (drop at list)) rest ∙ ap (λ (x : Option Pair). earlier x rest) (sym now) in
+        record { count = passed.count; shape = rw (← step) shape; match = rw (← step) match }
 
-  pub bad-end : n ≤ i → (offset ≡ length list → ⊥) → refused_look_up ≡ looked_up list label
-  bad-end h d = refused (passed.shape ∙ ends_not list n i offset at h d)
+  pub bad-end : n ≤ i → (offset ≡ length list → ⊥) → Err BadCaption ≡ looked_up list label
+  bad-end h d = refused (passed.shape ∙ ends_not list n i offset (text_at i) h d)
 
-  pub whole : n ≤ i → offset ≡ length list → record { refusal = accepted; first = first } ≡ looked_up list label
+  pub whole : n ≤ i → offset ≡ length list → Ok first ≡ looked_up list label
   unfolding looked_up
   whole h e =
+      let at = text_at i in
       let good = passed.shape ∙ ends list n i offset at h e in
-      let found : first_match list label (codes_in list) (pairs_in list) ≡ first = ap (λ (k : ℕ). first_match list label k (pairs_in list)) (sym passed.count) ∙ passed.match ∙ ap (λ (x : Match). earlier first x) (first-end list label n i at h) ∙ earlier-none first passed.clean in
+      let found : first_match list label (codes_in list) (pairs_in list) ≡ first = ap (λ (k : ℕ). first_match list label k (pairs_in list)) (sym passed.count) ∙ passed.match ∙ ap (λ (x : Option Pair). earlier first x) (first-end list label n i at h) ∙ earlier-none first in
       rw (good, found)
 
 -- ---- the number of a list: it is refused by nothing but 16
 
 -- a test that refuses by 16, and what is after it, which is accepted or 16
-one_number : (b : Bool) (next : ℕ) → ((next ≡ accepted → ⊥) → next ≡ bad_caption) → (cond b bad_caption next ≡ accepted → ⊥) → cond b bad_caption next ≡ bad_caption
-one_number true next h d = refl
-one_number false next h d = h d
+one_number : (b : Bool) (rest : ℕ) → ((rest ≡ accepted → ⊥) → rest ≡ bad_caption) → (cond b bad_caption rest ≡ accepted → ⊥) → cond b bad_caption rest ≡ bad_caption
+one_number true rest h d = refl
+one_number false rest h d = h d
 
 pub pairs_number_lem : (len offset k : ℕ) (pairs : List ℕ) → (pairs_in_turn any_length bad_caption bad_caption len offset k pairs ≡ accepted → ⊥) → pairs_in_turn any_length bad_caption bad_caption len offset k pairs ≡ bad_caption
 unfolding pairs_in_turn
@@ -203,14 +201,15 @@ pub list_number_lem : (list : List ℕ) → (list_number list ≡ accepted → �
 unfolding list_number
 list_number_lem list d = pairs_number_lem _ _ (2 * codes_in list) _ d
 
-pub looked_number : (list label : List ℕ) → (looked_up list label).refusal ≡ list_number list
+-- what a pass answers
+pub looked_number : (list label : List ℕ) → number_in (looked_up list label) ≡ list_number list
 unfolding looked_up
 looked_number list label = chosen (eqb (list_number list) accepted) refl
   where
-    chosen : (b : Bool) → eqb (list_number list) accepted ≡ b → (cond b (record { refusal = accepted; first = first_match list label (codes_in list) (pairs_in list) }) refused_look_up).refusal ≡ list_number list
+    chosen : (b : Bool) → eqb (list_number list) accepted ≡ b → number_in (cond b (Ok (first_match list label (codes_in list) (pairs_in list))) (Err BadCaption)) ≡ list_number list
     chosen true e = sym (eqb-true _ _ e)
     chosen false e = sym (list_number_lem list (eqb-false _ _ e))
 
-pub looked_first : (list label : List ℕ) → list_number list ≡ accepted → (looked_up list label).first ≡ first_match list label (codes_in list) (pairs_in list)
+pub looked_first : (list label : List ℕ) → list_number list ≡ accepted → looked_up list label ≡ Ok (first_match list label (codes_in list) (pairs_in list))
 unfolding looked_up
 looked_first list label e = rw e

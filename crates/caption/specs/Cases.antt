@@ -2,8 +2,7 @@
 use Rattle.std.specs.Prelude.{ℕ, ◌≡◌, List, [], ◌∷◌, ◌++◌}
 use Rattle.caption.specs.declared.finder.Source.{Source}
 use Rattle.caption.specs.declared.finder.Source.TheVariants.{Sheet, List as Venue}
-use Rattle.caption.specs.declared.finder.Caption.{Caption}
-use Rattle.caption.specs.Captions.{refused_caption, caption_of}
+use Rattle.caption.specs.Captions.{Answer, refused_caption, caption_of}
 
 -- a sheet of two entries, Once, scale 1.0, both at Start: `ab` at 44, and an empty label at 46
 abbrev header : List ℕ
@@ -36,7 +35,7 @@ longer = twice ++ (33 ∷ [])
 abbrev pub empty : List ℕ
 empty = (2 ∷ 0 ∷ []) ++ (18 ∷ 0 ∷ 3 ∷ 0 ∷ 21 ∷ 0 ∷ 1 ∷ 0 ∷ []) ++ (22 ∷ 0 ∷ 0 ∷ 0 ∷ 22 ∷ 0 ∷ 0 ∷ 0 ∷ []) ++ (97 ∷ 98 ∷ 99 ∷ 88 ∷ [])
 
-abbrev part : Source → ℕ → ℕ → Caption
+abbrev part : Source → ℕ → ℕ → Answer
 part source at len = record { refusal = 0; source = source; at = at; len = len }
 
 pub record Worked : Type 0 where

@@ -8,21 +8,23 @@ pub mod finder;
 ghost use Rattle.caption.specs.Captions.{caption_of, IsPart};
 ghost use Rattle.caption.specs.Claim.{Claim};
 
-use finder::is_list;
+use finder::Source;
 pub use finder::{check_list, find_caption};
 
-// The named form of a caption: the part itself, of one of the two.
+// The named form of a caption: the part itself, of one of the two. Of a refused call it is the empty start of the sheet.
 pub fn caption<'a>(list: &'a [u8], sheet: &'a [u8], entry: usize) -> &'a [u8]
     ensures { IsPart (caption_of list.now sheet.now entry) list.entry sheet.entry result }
 {
-    let found = find_caption(list, sheet, entry);
-    let start = found.at;
-    let end = start + found.len;
-    let source = found.source;
-    if is_list(source) {
-        return &list[start..end];
+    match find_caption(list, sheet, entry) {
+        Err(_) => &sheet[..0],
+        Ok(found) => {
+            let end = found.at + found.len;
+            match found.source {
+                Source::Sheet => &sheet[found.at..end],
+                Source::List => &list[found.at..end],
+            }
+        }
     }
-    &sheet[start..end]
 }
 
 // Proved: what holds of every caption.

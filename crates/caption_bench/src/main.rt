@@ -4,9 +4,11 @@
 // byte is changed, so that no call can be left out. The sum of all `at + len`, modulo 2^32, is printed.
 #![tactic(auto)]
 
+ghost use Rattle.std.specs.Prelude.{◌≤◌, length};
+
 use caption::find_caption;
-use case_io::input;
-use std::io::Print;
+use case_io::input::{read_record, read_word};
+use std::io::{Print, Stdin};
 
 const LIST: usize = 140_000;
 
@@ -16,32 +18,43 @@ fn main(rt: HostRuntime) {
     let mut stdin = rt.stdin();
     let mut list = [0u8; LIST];
     let mut sheet = [0u8; SHEET];
-    let calls = input::read_word(&mut stdin);
-    let first = input::read_record(&mut stdin, &mut list);
-    let second = input::read_record(&mut stdin, &mut sheet);
-    let entry = input::read_word(&mut stdin);
-    let a = first.len;
-    let b = second.len;
-    let sum = captions(calls.n, &mut list[..a], &sheet[..b], entry.n);
+    let calls = number(&mut stdin);
+    let a = record(&mut stdin, &mut list);
+    let b = record(&mut stdin, &mut sheet);
+    let entry = number(&mut stdin);
+    let sum = captions(calls, &mut list[..a], &sheet[..b], entry as usize);
     rt.println(sum).is_ok();
 }
 
-fn captions(calls: usize, list: &mut [u8], sheet: &[u8], entry: usize) -> u64 {
-    let mut sum = 0u64;
-    let mut i = 0usize;
-    while i < calls {
-        touch(list, (i % 256) as u8);
-        let found = find_caption(list, sheet, entry);
-        sum = (sum + ((found.at % 65_536) as u64) + ((found.len % 65_536) as u64)) % 0x1_0000_0000;
-        i += 1;
+// Reads a number, or what there is of it.
+fn number(stdin: &mut Stdin) -> u32 {
+    match read_word(stdin) {
+        Some(word) => word.any(),
+        None => 0,
     }
-    sum
 }
 
-// Changes the last byte.
-fn touch(list: &mut [u8], byte: u8) {
-    if list.len() > 0 {
-        let last = list.len() - 1;
-        list[last] = byte;
+// Reads a record, or what there is of it, and answers how long it is.
+fn record(stdin: &mut Stdin, room: &mut [u8]) -> usize
+    ensures { result ≤ length room.new }
+{
+    match read_record(stdin, room) {
+        Some(record) => record.any().len(),
+        None => 0,
     }
+}
+
+fn captions(calls: u32, list: &mut [u8], sheet: &[u8], entry: usize) -> u32 {
+    let mut sum = 0u32;
+    for call in 0..calls {
+        if let Some(last) = list.last_mut() {
+            *last = (call % 256) as u8;
+        }
+        if let Ok(found) = find_caption(list, sheet, entry) {
+            sum = sum
+                .wrapping_add((found.at % 65_536) as u32)
+                .wrapping_add((found.len % 65_536) as u32);
+        }
+    }
+    sum
 }

@@ -5,10 +5,11 @@
 // longer, or that the input does not have whole, is `cut`, and the last.
 #![tactic(auto)]
 
-use caption::finder::letter;
+use caption::finder::Source;
 use caption::{caption, find_caption};
-use case_io::text::{BUFFER, Sink};
-use case_io::{fields, input};
+use case_io::fields;
+use case_io::input::{Part, read_record, read_word};
+use case_io::text::{Form, Sink};
 use std::io::Stdin;
 
 // The longest list and the longest sheet.
@@ -16,81 +17,45 @@ const LIST: usize = 140_000;
 
 const SHEET: usize = 12_000;
 
-// The text so far, and whether there may be more records.
-#[derive(Clone, Copy)]
-struct Turn {
-    sink: Sink,
-    more: bool,
-}
-
-// A proved loop has to end, and nothing says that the input does: so it ends at a number of records that no run reaches.
 fn main(rt: HostRuntime) {
     let mut stdin = rt.stdin();
     let mut list = [0u8; LIST];
     let mut sheet = [0u8; SHEET];
-    let mut buffer = [0u8; BUFFER];
-    let mut turn = Turn {
-        sink: Sink::new(rt.stdout(), true),
-        more: true,
-    };
-    let mut number = 0;
-    while number < usize::MAX && turn.more {
-        turn = record(&mut stdin, turn.sink, &mut buffer, &mut list, &mut sheet);
-        number += 1;
+    let mut sink = Sink::new(rt.stdout(), Form::Text);
+    // A proved loop has to end, and nothing says that the input does: so it ends at a number of records that no run reaches.
+    for _ in 0..u64::MAX {
+        let Some(first) = read_record(&mut stdin, &mut list) else {
+            break;
+        };
+        if answer(&mut stdin, &mut sink, first, &mut sheet).is_none() {
+            sink.bytes(b"cut\n");
+            break;
+        }
     }
-    let sink = turn.sink;
-    sink.end(&buffer);
+    sink.end();
 }
 
-// Answers the next record.
-fn record(
-    stdin: &mut Stdin,
-    sink: Sink,
-    buffer: &mut [u8; BUFFER],
-    list: &mut [u8],
-    sheet: &mut [u8],
-) -> Turn {
-    let first = input::read_record(stdin, list);
-    if first.ended {
-        return Turn { sink, more: false };
-    }
-    if !first.whole {
-        return cut(sink, buffer);
-    }
-    let second = input::read_record(stdin, sheet);
-    if !second.whole {
-        return cut(sink, buffer);
-    }
-    let entry = input::read_word(stdin);
-    if !entry.whole {
-        return cut(sink, buffer);
-    }
-    let a = first.len;
-    let b = second.len;
-    let sink = line(sink, buffer, &list[..a], &sheet[..b], entry.n);
-    Turn { sink, more: true }
-}
-
-fn cut(sink: Sink, buffer: &mut [u8; BUFFER]) -> Turn {
-    let sink = sink.bytes(buffer, b"cut\n");
-    Turn { sink, more: false }
+// Reads the rest of a record and prints its line; prints none where the record is cut.
+fn answer(stdin: &mut Stdin, sink: &mut Sink, list: Part<&[u8]>, sheet: &mut [u8]) -> Option<()> {
+    let list = list.whole()?;
+    let sheet = read_record(stdin, sheet)?.whole()?;
+    let entry = read_word(stdin)?.whole()?;
+    line(sink, list, sheet, entry as usize);
+    Some(())
 }
 
 // `refusal source at len text`
-fn line<'a>(
-    sink: Sink,
-    buffer: &mut [u8; BUFFER],
-    list: &'a [u8],
-    sheet: &'a [u8],
-    entry: usize,
-) -> Sink {
+fn line(sink: &mut Sink, list: &[u8], sheet: &[u8], entry: usize) {
     let found = find_caption(list, sheet, entry);
-    let source = found.source;
-    let s = sink.decimal(buffer, found.refusal as usize);
-    let s = s.letter(buffer, b' ', letter(source));
-    let s = s.number(buffer, b' ', found.at);
-    let s = s.number(buffer, b' ', found.len);
-    let s = s.byte(buffer, b' ');
-    let s = fields::hex(s, buffer, caption(list, sheet, entry));
-    s.byte(buffer, b'\n')
+    sink.decimal(usize::from(refusal::number_in(&found)));
+    let (source, at, len) = match found {
+        Ok(found) => (found.source, found.at, found.len),
+        Err(_) => (Source::Sheet, 0, 0),
+    };
+    sink.letter(b' ', source.letter());
+    sink.number(b' ', at);
+    sink.number(b' ', len);
+    sink.byte(b' ');
+    fields::hex(sink, caption(list, sheet, entry));
+    sink.byte(b'\n');
 }

@@ -4,15 +4,14 @@
 
 ghost use Rattle.std.specs.Prelude.{◌≤◌, length};
 
-use caption::finder::{Caption, letter};
+use caption::finder::Caption;
 use caption::{caption, check_list, find_caption};
 use digits::put_decimal;
 use escape::escape;
-use refusal::ACCEPTED;
+use refusal::{ACCEPTED, Refusal};
 use std::fs;
 use std::io::{Print, Stderr, Stdout};
-use steps::least;
-use streams::{Got, front, read_to};
+use streams::{Got, front, read_full};
 
 // The venue list's descriptor, one that nothing else has open, by its name. It is opened again, so that a regular file is read from
 // its start; of a FIFO that nobody writes to any more that would wait, and `./panel` copies what is no regular file first.
@@ -40,15 +39,12 @@ fn main(rt: HostRuntime) {
         not_read(stderr);
         return;
     }
-    let mut stdin = rt.stdin();
-    let second = read_to(&mut stdin, &mut sheet, 0, SHEET);
+    let second = read_full(&mut rt.stdin(), &mut sheet);
     if second.failed {
         not_read(stderr);
         return;
     }
-    let a = first.count;
-    let b = second.count;
-    captions(stdout, stderr, &list[..a], &sheet[..b]);
+    captions(stdout, stderr, &list[..first.count], &sheet[..second.count]);
 }
 
 // Reads the venue list. A file that cannot be opened is a read that fails.
@@ -56,10 +52,7 @@ fn read_list(rt: &HostRuntime, list: &mut [u8; LIST]) -> Got
     ensures { result.count ≤ length list.new }
 {
     match fs::open(rt, LIST_FILE) {
-        Ok(file) => {
-            let mut reader = file;
-            read_to(&mut reader, list, 0, LIST)
-        }
+        Ok(mut file) => read_full(&mut file, list),
         Err(_) => Got {
             count: 0,
             failed: true,
@@ -69,73 +62,61 @@ fn read_list(rt: &HostRuntime, list: &mut [u8; LIST]) -> Got
 
 // The text of a list and a sheet.
 fn captions<'a>(stdout: Stdout, stderr: Stderr, list: &'a [u8], sheet: &'a [u8]) {
-    let number = refusal_of(list, sheet);
-    if number != ACCEPTED {
-        if write_refused(stdout, number) {
-            refused(stderr, number);
-        } else {
-            not_written(stderr);
+    match check(list, sheet) {
+        Err(refusal) => {
+            if write_refused(stdout, refusal) {
+                refused(stderr, refusal);
+            } else {
+                not_written(stderr);
+            }
         }
-        return;
-    }
-    let count = sheet_format::count(sheet);
-    if !write_accepted(stdout, count) || !lines(stdout, list, sheet, count) {
-        not_written(stderr);
+        Ok(()) => {
+            let count = sheet_format::count(sheet);
+            if !write_accepted(stdout, count) || !lines(stdout, list, sheet, count) {
+                not_written(stderr);
+            }
+        }
     }
 }
 
-// The sheet's own number comes before the list's.
-fn refusal_of(list: &[u8], sheet: &[u8]) -> u8 {
-    let number = sheet_format::check(sheet);
-    if number != ACCEPTED {
-        return number;
-    }
+// The sheet's own reason comes before the list's.
+fn check(list: &[u8], sheet: &[u8]) -> Result<(), Refusal> {
+    sheet_format::check(sheet)?;
     check_list(list)
 }
 
 // A line for each entry. After the first write that fails nothing more is written: what stands there is the text's beginning.
 fn lines<'a>(stdout: Stdout, list: &'a [u8], sheet: &'a [u8], count: usize) -> bool {
     let mut room = [0u8; PIECE];
-    let mut entry = 0usize;
-    while entry < count {
-        if !line(stdout, list, sheet, entry, &mut room) {
+    for entry in 0..count {
+        // Both were checked, and the entry is below the count: there is a caption.
+        let Ok(found) = find_caption(list, sheet, entry) else {
+            return false;
+        };
+        if !line(stdout, entry, found, caption(list, sheet, entry), &mut room) {
             return false;
         }
-        entry += 1;
     }
     true
 }
 
 // `number source at len text`; the line of an empty text ends after its length.
-fn line<'a>(
-    stdout: Stdout,
-    list: &'a [u8],
-    sheet: &'a [u8],
-    entry: usize,
-    room: &mut [u8],
-) -> bool {
+fn line(stdout: Stdout, entry: usize, found: Caption, text: &[u8], room: &mut [u8]) -> bool {
     let mut head = [0u8; HEAD];
-    let found = find_caption(list, sheet, entry);
     let at = put_fields(&mut head, entry, found);
-    let text = caption(list, sheet, entry);
-    if text.len() == 0 {
+    if text.is_empty() {
         return write_with(stdout, &mut head, at, b'\n');
     }
-    if !write_with(stdout, &mut head, at, b' ') {
-        return false;
-    }
-    if !write_text(stdout, text, room) {
-        return false;
-    }
-    write_with(stdout, &mut head, 0, b'\n')
+    write_with(stdout, &mut head, at, b' ')
+        && write_text(stdout, text, room)
+        && write_with(stdout, &mut head, 0, b'\n')
 }
 
 // `number source at len`
 fn put_fields(head: &mut [u8; HEAD], entry: usize, found: Caption) -> usize {
-    let source = found.source;
     let at = put_number(head, 0, entry);
     let at = put_byte(head, at, b' ');
-    let at = put_byte(head, at, letter(source));
+    let at = put_byte(head, at, found.source.letter());
     let at = put_byte(head, at, b' ');
     let at = put_number(head, at, found.at);
     let at = put_byte(head, at, b' ');
@@ -144,17 +125,14 @@ fn put_fields(head: &mut [u8; HEAD], entry: usize, found: Caption) -> usize {
 
 // Bytes as text that a person can read, a piece at a time.
 fn write_text(stdout: Stdout, text: &[u8], room: &mut [u8]) -> bool {
-    let mut done = 0usize;
-    while done < text.len() {
-        let made = escape(&text[done..], room);
-        let used = least(made.used, text.len() - done);
-        if used == 0 {
+    let mut rest = text;
+    // How much a piece takes shows when it is made, so no `for` counts them.
+    while !rest.is_empty() {
+        let made = escape(rest, room);
+        if made.used == 0 || !write(stdout, room, made.len) {
             return false;
         }
-        if !write(stdout, room, made.len) {
-            return false;
-        }
-        done += used;
+        rest = &rest[made.used..];
     }
     true
 }
@@ -166,15 +144,15 @@ fn write(stdout: Stdout, bytes: &[u8], len: usize) -> bool {
 
 // ---- the first line
 
-fn write_refused(stdout: Stdout, number: u8) -> bool {
+fn write_refused(stdout: Stdout, refusal: Refusal) -> bool {
     let mut head = [0u8; HEAD];
-    let at = put_number(&mut head, 0, number as usize);
+    let at = put_number(&mut head, 0, usize::from(refusal.number()));
     write_name(stdout) && write_with(stdout, &mut head, at, b'\n')
 }
 
 fn write_accepted(stdout: Stdout, count: usize) -> bool {
     let mut head = [0u8; HEAD];
-    let at = put_number(&mut head, 0, ACCEPTED as usize);
+    let at = put_number(&mut head, 0, usize::from(ACCEPTED));
     let at = put_byte(&mut head, at, b' ');
     let at = put_number(&mut head, at, count);
     write_name(stdout) && write_with(stdout, &mut head, at, b'\n')
@@ -184,7 +162,7 @@ fn write_name(stdout: Stdout) -> bool {
     stdout.write_all(b"captions ").is_ok()
 }
 
-// ---- the fields of a line, up to its text
+// ---- the fields of a line, up to its text: a fixed array and a place in it, since there is no heap
 
 fn put_byte(head: &mut [u8; HEAD], at: usize, byte: u8) -> usize {
     if at >= HEAD {
@@ -195,25 +173,23 @@ fn put_byte(head: &mut [u8; HEAD], at: usize, byte: u8) -> usize {
 }
 
 fn put_number(head: &mut [u8; HEAD], at: usize, n: usize) -> usize {
-    let start = least(at, HEAD);
-    let written = put_decimal(n, head, start);
-    start + least(written, HEAD)
+    let start = at.min(HEAD);
+    start + put_decimal(n, head, start).min(HEAD)
 }
 
 // Puts one byte more, and writes all.
 fn write_with(stdout: Stdout, head: &mut [u8; HEAD], at: usize, last: u8) -> bool {
     let end = put_byte(head, at, last);
-    let bytes: &[u8] = head;
-    write(stdout, bytes, end)
+    write(stdout, head, end)
 }
 
 // ---- what standard error gets: the launcher goes by how a line begins
 
 // The text is whole: it is the one line.
-fn refused(stderr: Stderr, number: u8) {
+fn refused(stderr: Stderr, refusal: Refusal) {
     stderr
         .println(format_args!(
-            "captions: refused by {number}; docs/FORMATS.md says what the number means"
+            "captions: refused by {refusal}; docs/FORMATS.md says what the number means"
         ))
         .is_ok();
 }

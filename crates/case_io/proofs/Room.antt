@@ -6,19 +6,15 @@ use mathlib.Core.List.{List}
 use native.Mathlib.Omega.{arith}
 use borrow.Author.Tests.{leb-true}
 use lib.Dec.{leb}
-use lib.ListN.{length, take, length-take}
+use lib.ListN.{length}
 use Rattle.digits.specs.Digits.{Put, written_count}
 
--- the first k of n elements are k
-pub front : {A : Type 0} (n k : ℕ) (xs : List A) → n ≡ length xs → k ≤ n → k ≡ length (take k xs)
-front n k xs e h = simp length-take (omega arith)
+-- what is chosen where it has room ends within the room
+chosen : (b : Bool) (at w len : ℕ) → leb (at + w) len ≡ b → at ≤ len → at + cond b w 0 ≤ len
+chosen true at w len h a = omega (arith, leb-true (at + w) len h)
+chosen false at w len h a = omega (arith, a)
 
--- what is chosen where it has room is no longer than the room
-chosen : (b : Bool) (at w len : ℕ) → leb (at + w) len ≡ b → cond b w 0 ≤ len
-chosen true at w len h = omega (arith, leb-true (at + w) len h)
-chosen false at w len h = omega arith
-
--- a text that was put into a slice is no longer than the slice
-pub within : {text : List ℕ} {at : ℕ} {old new : List ℕ} {count : ℕ} → Put text at old new count → count ≤ length old
+-- a text that was put into a sink's buffer ends within it
+pub ends_within : {text : List ℕ} {at : ℕ} {old new : List ℕ} {count : ℕ} → Put text at old new count → 65536 ≡ length old → at + 32 ≤ 65536 → at + count ≤ 65536
 unfolding written_count
-within {text} {at} {old} put = rw put.counted (chosen _ at (length text) (length old) refl)
+ends_within {text} {at} {old} put len room = rw (put.counted, len) (chosen _ at (length text) (length old) refl (omega arith))

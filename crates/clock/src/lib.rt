@@ -1,14 +1,14 @@
 // The clock of a timeline, and what each call makes of it (timeline.rs; paper 01, part 4).
 #![tactic(auto)]
 
-ghost use Rattle.std.specs.Prelude.{◌≡◌, cond};
+ghost use Rattle.std.specs.Prelude.{◌≡◌};
 ghost use Rattle.clock.specs.Clocks.{letter_of, is_playing, is_completed, with_state, scaled, cleared, started, play_state, played, play_rule, paused_state, paused, resumed_state, resumed, unended, seek_to, share_in, seek_state, sought, advances, advance_rule, next_elapsed, within, reach_of, fires, advanced_clock};
 
 use steps::Rule;
 use tween::Loop;
 
 // The playback state of a timeline.
-#[derive(Clone, Copy)]
+#[derive(Clone, Copy, PartialEq, Eq, Debug)]
 pub enum TimelineState {
     // Ready, and not advancing.
     Idle,
@@ -36,79 +36,66 @@ pub struct Reach {
     pub ended: bool,
 }
 
-// The letter of a state in a log.
-pub fn letter(state: TimelineState) -> u8
-    ensures { result ≡ letter_of state }
-{
-    match state {
-        TimelineState::Idle => b'I',
-        TimelineState::Playing => b'P',
-        TimelineState::Paused => b'H',
-        TimelineState::Completed => b'C',
+impl TimelineState {
+    // Its letter in a log.
+    pub fn letter(self) -> u8
+        ensures { result ≡ letter_of self }
+    {
+        match self {
+            TimelineState::Idle => b'I',
+            TimelineState::Playing => b'P',
+            TimelineState::Paused => b'H',
+            TimelineState::Completed => b'C',
+        }
     }
-}
 
-// Whether it is advancing.
-pub fn is_playing(state: TimelineState) -> bool
-    ensures { result ≡ is_playing state }
-{
-    match state {
-        TimelineState::Idle => false,
-        TimelineState::Playing => true,
-        TimelineState::Paused => false,
-        TimelineState::Completed => false,
+    // Whether it is advancing.
+    pub fn is_playing(self) -> bool
+        ensures { result ≡ is_playing self }
+    {
+        matches!(self, TimelineState::Playing)
     }
-}
 
-// Whether it has come to its end.
-pub fn is_completed(state: TimelineState) -> bool
-    ensures { result ≡ is_completed state }
-{
-    match state {
-        TimelineState::Idle => false,
-        TimelineState::Playing => false,
-        TimelineState::Paused => false,
-        TimelineState::Completed => true,
+    // Whether it has come to its end.
+    pub fn is_completed(self) -> bool
+        ensures { result ≡ is_completed self }
+    {
+        matches!(self, TimelineState::Completed)
     }
-}
 
-// What `pause` makes of a state.
-fn pause_state(state: TimelineState) -> TimelineState
-    ensures { result ≡ paused_state state }
-{
-    match state {
-        TimelineState::Idle => TimelineState::Idle,
-        TimelineState::Playing => TimelineState::Paused,
-        TimelineState::Paused => TimelineState::Paused,
-        TimelineState::Completed => TimelineState::Completed,
+    // What `pause` makes of it.
+    fn paused(self) -> TimelineState
+        ensures { result ≡ paused_state self }
+    {
+        match self {
+            TimelineState::Playing => TimelineState::Paused,
+            other => other,
+        }
     }
-}
 
-// What `resume` makes of a state.
-fn resume_state(state: TimelineState) -> TimelineState
-    ensures { result ≡ resumed_state state }
-{
-    match state {
-        TimelineState::Idle => TimelineState::Idle,
-        TimelineState::Playing => TimelineState::Playing,
-        TimelineState::Paused => TimelineState::Playing,
-        TimelineState::Completed => TimelineState::Completed,
+    // What `resume` makes of it.
+    fn resumed(self) -> TimelineState
+        ensures { result ≡ resumed_state self }
+    {
+        match self {
+            TimelineState::Paused => TimelineState::Playing,
+            other => other,
+        }
     }
-}
 
-// What a seek that does not reach the end makes of a state.
-fn unend(state: TimelineState) -> TimelineState
-    ensures { result ≡ unended state }
-{
-    match state {
-        TimelineState::Idle => TimelineState::Idle,
-        TimelineState::Playing => TimelineState::Playing,
-        TimelineState::Paused => TimelineState::Paused,
-        TimelineState::Completed => TimelineState::Playing,
+    // What a seek that does not reach the end makes of it.
+    fn unended(self) -> TimelineState
+        ensures { result ≡ unended self }
+    {
+        match self {
+            TimelineState::Completed => TimelineState::Playing,
+            other => other,
+        }
     }
 }
 
 // What `play` makes of any state: there is nothing to play where the base is 0.
+#[tactic(auto, unfolding(crate::specs::Clocks::play_state))]
 fn play_state(base: f32) -> TimelineState
     ensures { result ≡ play_state base }
 {
@@ -120,21 +107,19 @@ fn play_state(base: f32) -> TimelineState
 }
 
 // What a seek that comes to elapsed, in a run of this length, makes of a state.
+#[tactic(auto, unfolding(crate::specs::Clocks::seek_state))]
 fn seek_state(total: f32, elapsed: f32, state: TimelineState) -> TimelineState
     ensures { result ≡ seek_state total elapsed state }
 {
-    if float32::is_finite(total) {
-        if elapsed >= total {
-            TimelineState::Completed
-        } else {
-            unend(state)
-        }
+    if float32::is_finite(total) && elapsed >= total {
+        TimelineState::Completed
     } else {
-        unend(state)
+        state.unended()
     }
 }
 
 // Where a seek to these seconds comes to, in a run of this length.
+#[tactic(auto, unfolding(crate::specs::Clocks::seek_to))]
 pub fn seek_to(total: f32, secs: f32) -> f32
     ensures { result ≡ seek_to total secs }
 {
@@ -147,46 +132,47 @@ pub fn seek_to(total: f32, secs: f32) -> f32
 }
 
 // The second that a share stands for, in `seek`.
+#[tactic(auto, unfolding(crate::specs::Clocks::share_in))]
 pub fn share_in(base: f32, total: f32, share: f32) -> f32
     ensures { result ≡ share_in base total share }
 {
-    let part = float32::clamp(share, 0.0, 1.0);
-    if float32::is_finite(total) {
-        total * part
+    let run = if float32::is_finite(total) {
+        total
     } else {
-        base * part
-    }
+        base
+    };
+    run * float32::clamp(share, 0.0, 1.0)
 }
 
 // What `play` sends to every entry, from this clock.
+#[tactic(auto, unfolding(crate::specs::Clocks::play_rule))]
 pub fn play_rule(mode: Loop, clock: Clock, base: f32) -> Rule
     ensures { result ≡ play_rule mode clock base }
 {
-    let from = clock.started();
-    let elapsed = from.elapsed;
-    let t = steps::local_time(mode, base, elapsed);
-    let state = clock.state;
-    if is_completed(state) {
+    let t = steps::local_time(mode, base, clock.started().elapsed);
+    if clock.state.is_completed() {
         if base == 0.0 {
             Rule::Clear
         } else {
             Rule::Restart(t)
         }
+    } else if base == 0.0 {
+        Rule::Keep
     } else {
-        if base == 0.0 {
-            Rule::Keep
-        } else {
-            Rule::Sync(t)
-        }
+        Rule::Sync(t)
     }
 }
 
 // What an update outside Once sends to every entry: it comes to elapsed, if it goes on.
+#[tactic(auto, unfolding(crate::specs::Clocks::advance_rule))]
 pub fn advance_rule(advances: bool, mode: Loop, base: f32, elapsed: f32) -> Rule
     ensures { result ≡ advance_rule advances mode base elapsed }
 {
-    let t = steps::local_time(mode, base, elapsed);
-    if advances { Rule::Sync(t) } else { Rule::Keep }
+    if advances {
+        Rule::Sync(steps::local_time(mode, base, elapsed))
+    } else {
+        Rule::Keep
+    }
 }
 
 // A run of this length bounds an update to next, and ends it.
@@ -200,21 +186,17 @@ pub fn reach_within(total: f32, next: f32) -> Reach
 }
 
 // Where an update to next comes to, by the mode, in a base that is not 0.
+#[tactic(auto, unfolding(crate::specs::Clocks::reach_of))]
 pub fn reach_of(mode: Loop, base: f32, next: f32) -> Reach
     ensures { result ≡ reach_of mode base next }
 {
     match mode {
         Loop::Once => reach_within(base, next),
-        Loop::Times(n) => reach_within(steps::times_run(base, n), next),
-        Loop::Forever => Reach {
+        Loop::Times(n) | Loop::PingPongTimes(n) => reach_within(steps::times_run(base, n), next),
+        Loop::Forever | Loop::PingPong => Reach {
             elapsed: next,
             ended: false,
         },
-        Loop::PingPong => Reach {
-            elapsed: next,
-            ended: false,
-        },
-        Loop::PingPongTimes(n) => reach_within(steps::times_run(base, n), next),
     }
 }
 
@@ -223,55 +205,52 @@ impl Clock {
     pub fn kept(self) -> Clock
         ensures { result ≡ self }
     {
-        let state = self.state;
         Clock {
             elapsed: self.elapsed,
-            state,
+            state: self.state,
             time_scale: self.time_scale,
             complete_fired: self.complete_fired,
         }
     }
 
     // The clock in another state.
+    #[tactic(auto, unfolding(crate::specs::Clocks::with_state))]
     fn with_state(self, state: TimelineState) -> Clock
         ensures { result ≡ with_state self state }
     {
-        Clock {
-            elapsed: self.elapsed,
-            state,
-            time_scale: self.time_scale,
-            complete_fired: self.complete_fired,
-        }
+        Clock { state, ..self }
     }
 
     // `set_time_scale`: negative and NaN become 0.
+    #[tactic(auto, unfolding(crate::specs::Clocks::scaled))]
     pub fn scaled(self, scale: f32) -> Clock
         ensures { result ≡ scaled self scale }
     {
-        let time_scale = float32::max(scale, 0.0);
-        let mut c = self;
-        c.time_scale = time_scale;
-        c
+        Clock {
+            time_scale: float32::max(scale, 0.0),
+            ..self
+        }
     }
 
     // `reset`
+    #[tactic(auto, unfolding(crate::specs::Clocks::cleared))]
     pub fn cleared(self) -> Clock
         ensures { result ≡ cleared self }
     {
         Clock {
             elapsed: 0.0,
             state: TimelineState::Idle,
-            time_scale: self.time_scale,
             complete_fired: false,
+            ..self
         }
     }
 
     // The clock from which `play` goes on: reset, where it is Completed.
+    #[tactic(auto, unfolding(crate::specs::Clocks::started))]
     pub fn started(self) -> Clock
         ensures { result ≡ started self }
     {
-        let state = self.state;
-        if is_completed(state) {
+        if self.state.is_completed() {
             self.cleared()
         } else {
             self
@@ -279,73 +258,66 @@ impl Clock {
     }
 
     // `play`, with this base.
+    #[tactic(auto, unfolding(crate::specs::Clocks::played))]
     pub fn played(self, base: f32) -> Clock
         ensures { result ≡ played self base }
     {
-        let from = self.started();
-        let state = play_state(base);
-        from.with_state(state)
+        self.started().with_state(play_state(base))
     }
 
     // `pause`
+    #[tactic(auto, unfolding(crate::specs::Clocks::paused))]
     pub fn paused(self) -> Clock
         ensures { result ≡ paused self }
     {
-        let state = self.state;
-        let next = pause_state(state);
-        self.with_state(next)
+        self.with_state(self.state.paused())
     }
 
     // `resume`
+    #[tactic(auto, unfolding(crate::specs::Clocks::resumed))]
     pub fn resumed(self) -> Clock
         ensures { result ≡ resumed self }
     {
-        let state = self.state;
-        let next = resume_state(state);
-        self.with_state(next)
+        self.with_state(self.state.resumed())
     }
 
     // `seek_abs` that comes to elapsed, in a run of this length.
+    #[tactic(auto, unfolding(crate::specs::Clocks::sought))]
     pub fn sought(self, total: f32, elapsed: f32) -> Clock
         ensures { result ≡ sought self total elapsed }
     {
-        let state = self.state;
-        let next = seek_state(total, elapsed, state);
         Clock {
             elapsed,
-            state: next,
-            time_scale: self.time_scale,
-            complete_fired: self.complete_fired,
+            state: seek_state(total, elapsed, self.state),
+            ..self
         }
     }
 
     // Whether an update goes on from here: it is Playing, and there is something to play.
+    #[tactic(auto, unfolding(crate::specs::Clocks::advances))]
     pub fn advances(self, base: f32) -> bool
         ensures { result ≡ advances self base }
     {
-        let state = self.state;
-        if base == 0.0 {
-            return false;
-        }
-        is_playing(state)
+        self.state.is_playing() && base != 0.0
     }
 
     // The elapsed time to which `update` would go, in a run without end.
+    #[tactic(auto, unfolding(crate::specs::Clocks::next_elapsed))]
     pub fn next_elapsed(self, dt: f32) -> f32
         ensures { result ≡ next_elapsed self dt }
     {
-        let step = float32::max(dt, 0.0) * self.time_scale;
-        self.elapsed + step
+        self.elapsed + float32::max(dt, 0.0) * self.time_scale
     }
 
     // Whether the whole-run completion fires in an update that ends the run, or does not.
     pub fn fires(self, ended: bool) -> bool
         ensures { result ≡ fires self ended }
     {
-        steps::both(ended, !self.complete_fired)
+        ended && !self.complete_fired
     }
 
     // `update` that comes to elapsed. Where the run ends there it is Completed, and the whole-run completion has fired.
+    #[tactic(auto, unfolding(crate::specs::Clocks::advanced_clock))]
     pub fn advanced(self, elapsed: f32, ended: bool) -> Clock
         ensures { result ≡ advanced_clock self elapsed ended }
     {
@@ -353,17 +325,11 @@ impl Clock {
             Clock {
                 elapsed,
                 state: TimelineState::Completed,
-                time_scale: self.time_scale,
                 complete_fired: true,
+                ..self
             }
         } else {
-            let state = self.state;
-            Clock {
-                elapsed,
-                state,
-                time_scale: self.time_scale,
-                complete_fired: self.complete_fired,
-            }
+            Clock { elapsed, ..self }
         }
     }
 }

@@ -80,10 +80,9 @@ module _ (mode : Loop) (ends : List Float) (base prev next : Float) where
   no-period f b w e p = rw (not_le_of_lt prev next f, b, rw e at p)
 
   -- past them, the walk
-  pub walked : lt prev next ≡ true → le base zero_f ≡ false → (w : Walk) → w ≡ walk_of mode base prev next → le w.period zero_f ≡ false
-      → (first : ℕ) → first ≡ first_cycle w → completions_in mode ends base prev next ≡ cycles_from w ends first
+  pub walked : lt prev next ≡ true → le base zero_f ≡ false → (w : Walk) → w ≡ walk_of mode base prev next → le w.period zero_f ≡ false → completions_in mode ends base prev next ≡ cycles_from w ends (first_cycle w)
   unfolding completions_in
-  walked f b w e p first e' = rw (e', e, not_le_of_lt prev next f, b, rw e at p)
+  walked f b w e p = rw (e, not_le_of_lt prev next f, b, rw e at p)
 
   -- a step that does not go forward, or has a NaN
   pub not-forward : lt prev next ≡ false → empty_at_nan prev next (completions_in mode ends base prev next) ≡ []

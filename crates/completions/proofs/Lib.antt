@@ -11,6 +11,6 @@ pub mod Drift
 pub mod Starts
 pub mod Fuel
 pub mod Turns
-pub mod Spans
+pub mod Longest
 pub mod Prompt
 pub mod Claims

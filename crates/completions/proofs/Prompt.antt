@@ -22,13 +22,13 @@ use Rattle.tween.specs.declared.loop_mode.Loop.TheVariants.{Once, Times, Forever
 use Rattle.steps.specs.Times.{two_f, end_at, base_of}
 use Rattle.steps.specs.declared.Entry.{Entry}
 use Rattle.completions.specs.declared.Walk.{Walk}
-use Rattle.completions.specs.declared.Counted.{Counted}
+use Rattle.std.specs.Prelude.{Option}
 use Rattle.completions.specs.Answers.{room_for, Listed}
 use Rattle.completions.specs.Completions.{last_cycle, breaks_at, cycles, walk_of, first_cycle, none_if, completions_in, completions_between}
 use Rattle.completions.specs.Prompt.{completions_within, most_cycles, turns_from, Prompt, PromptAnswer, FewTurns}
 use Rattle.completions.proofs.Ends.{base_of_ends}
 use Rattle.completions.proofs.Fuel.{Lists, settled-from, enough-from, few-from}
-use Rattle.completions.proofs.Spans.{Has, largest_has, has_fits, le-double, lists}
+use Rattle.completions.proofs.Longest.{Has, largest_has, has_fits, le-double, lists}
 
 none_same : (n : ℕ) (b : Bool) (xs ys : List ℕ) → (b ≡ false → take n xs ≡ take n ys) → take n (none_if b xs) ≡ take n (none_if b ys)
 none_same n true xs ys h = refl
@@ -139,7 +139,7 @@ module _ (xs ys old : List ℕ) (e : take (length old + 1) xs ≡ take (length o
   no_room : length old < length xs → room_for ys old ≡ false
   no_room h = lt-leb (length ys) (length old) (omega (arith, lengths))
 
-  alike : (new : List ℕ) (r : Counted) → Listed xs old new r → Listed ys old new r
+  alike : (new : List ℕ) (r : Option ℕ) → Listed xs old new r → Listed ys old new r
   alike new r l = go (room_for xs old) refl
     where
       go : (b : Bool) → room_for xs old ≡ b → Listed ys old new r

@@ -1,5 +1,5 @@
 -- `entry_completion_labels_between` of timeline.rs, as the list of entry numbers. Definitions only.
-use Rattle.std.specs.Prelude.{ℕ, zero, suc, ◌+◌, ◌/◌, ◌%◌, ◌^◌, min, Bool, true, false, ◌&&◌, ◌||◌, List, [], ◌∷◌, ◌++◌, map, eqb, leb, Float}
+use Rattle.std.specs.Prelude.{ℕ, zero, suc, ◌+◌, ◌/◌, ◌%◌, ◌^◌, min, Bool, true, false, ◌&&◌, ◌||◌, List, [], ◌∷◌, ◌++◌, map, eqb, leb, Float, Option, Some, None}
 use Rattle.std.specs.Float.Ieee.{is_nan, add, mul, div, lt, le}
 use Rattle.std.specs.Float.{binary32}
 use Rattle.float32.specs.Helpers.{zero_f, max_f, from_u32, to_u32}
@@ -40,9 +40,14 @@ last_cycle = 4294967295
 abbrev pub next_cycle : ℕ → ℕ
 next_cycle cycle = min (cycle + 1) last_cycle
 
--- `cycle >= max_cycles`, where there is such a number, or `cycle_start > next`
+-- `cycle >= max_cycles`, where there is such a number
+abbrev pub reaches : Option ℕ → ℕ → Bool
+reaches (Some most) cycle = leb most cycle
+reaches None cycle = false
+
+-- the same, or `cycle_start > next`
 unfoldable pub breaks_at : Walk → ℕ → Bool
-breaks_at w cycle = (w.bounded && leb w.max_cycles cycle) || lt w.next (cycle_start w cycle)
+breaks_at w cycle = reaches w.max_cycles cycle || lt w.next (cycle_start w cycle)
 
 -- after `saturating_add`: `cycle == u32::MAX`, or one of the breaks above
 unfoldable pub stops_at : Walk → ℕ → Bool
@@ -67,11 +72,11 @@ cycles_from = cycles_within (2 ^ 32)
 
 -- `(Some(max_cycles), period)`
 abbrev pub limited_to : Float → Float → Float → ℕ → Walk
-limited_to prev next period most = record { prev = prev; next = next; period = period; bounded = true; max_cycles = most }
+limited_to prev next period most = record { prev = prev; next = next; period = period; max_cycles = Some most }
 
 -- `(None, period)`
 abbrev pub endlessly : Float → Float → Float → Walk
-endlessly prev next period = record { prev = prev; next = next; period = period; bounded = false; max_cycles = 0 }
+endlessly prev next period = record { prev = prev; next = next; period = period; max_cycles = None }
 
 -- `match self.looping`: forward and back are one cycle of a ping-pong
 abbrev pub walk_of : Loop → Float → Float → Float → Walk

@@ -1,5 +1,5 @@
 -- Every walk is prompt: broken off after a small number of cycles it loses nothing that a lent list has room for. Definitions only.
-use Rattle.std.specs.Prelude.{ℕ, zero, suc, ◌+◌, ◌-◌, ◌≤◌, ◌^◌, ◌≡◌, Bool, true, false, ◌&&◌, List, [], ◌∷◌, map, length, take, ltb, Float}
+use Rattle.std.specs.Prelude.{ℕ, zero, suc, ◌+◌, ◌-◌, ◌≤◌, ◌^◌, ◌≡◌, Bool, true, false, ◌&&◌, List, [], ◌∷◌, map, length, take, ltb, Float, Option}
 use Rattle.std.specs.Float.{binary32}
 use Rattle.std.specs.Float.Ieee.{lt, le, of_bits}
 use Rattle.float32.specs.Helpers.{zero_f}
@@ -9,7 +9,6 @@ use Rattle.steps.specs.Times.{end_at, base_of}
 use Rattle.steps.specs.declared.Entry.{Entry}
 use Rattle.completions.specs.declared.Walk.{Walk}
 use Rattle.completions.specs.Completions.{cycle_start, in_cycle, next_cycle, breaks_at, stops_at, walk_of, first_cycle, completions_for, empty_at_nan, completions_between}
-use Rattle.completions.specs.declared.Counted.{Counted}
 use Rattle.completions.specs.Answers.{Listed}
 use Rattle.completions.specs.Cases.{same_list}
 
@@ -32,7 +31,7 @@ Prompt = (mode : Loop) (es : List Entry) (prev next : Float) (room : ℕ)
 
 -- the same, of the answer and of what is left in the list
 abbrev pub PromptAnswer : Type 0
-PromptAnswer = (mode : Loop) (es : List Entry) (prev next : Float) (old new : List ℕ) (r : Counted)
+PromptAnswer = (mode : Loop) (es : List Entry) (prev next : Float) (old new : List ℕ) (r : Option ℕ)
     → Listed (completions_within (most_cycles (length old)) mode es prev next) old new r → Listed (completions_between mode es prev next) old new r
 
 -- ---- the cycles that are gone over

@@ -3,286 +3,203 @@
 // One pass over the cycles counts the completions, and stops as soon as they outnumber the lent list; a second pass writes them.
 #![tactic(auto)]
 
-ghost use Rattle.std.specs.Prelude.{◌≡◌, true, false, ◌+◌, ◌≤◌, min, length, leb};
+ghost use Rattle.std.specs.Prelude.{◌≡◌, true, false, ◌+◌, ◌≤◌, min, length, leb, Option, Some, None};
 ghost use mathlib.Core.List.{foldl};
 ghost use Rattle.std.proofs.lemmas.List.Edits.{sets};
 ghost use Rattle.std.specs.Float.Ieee.{is_nan, lt};
 ghost use Rattle.float32.specs.Helpers.{zero_f, max_f};
 ghost use Rattle.steps.specs.Slices.{over};
-ghost use Rattle.completions.specs.Completions.{cycle_start, completes, in_cycle, next_cycle, breaks_at, stops_at, cycles_from, limited_to, endlessly, walk_of, first_cycle, completions_in, empty_at_nan};
-ghost use Rattle.completions.specs.Columns.{most_entries, ends_in};
+ghost use Rattle.completions.specs.Completions.{cycle_start, completes, in_cycle, breaks_at, stops_at, walk_of, first_cycle, cycles_from, completions_in, empty_at_nan};
+ghost use Rattle.completions.specs.Columns.{most_entries, ends, first_ends};
 ghost use Rattle.completions.specs.Answers.{counted, Listed};
 ghost use Rattle.completions.specs.Claims.{Claims};
 
-use steps::least;
 use tween::Loop;
+use tween::loop_mode::passes;
 
 // The list numbers entries in bytes: those past this many are not listed.
 pub const MOST_ENTRIES: usize = 256;
 
-// The answer: how many completions were listed, or that they outnumber the list.
+// Where the entries stand: their starts and their durations, two lent columns. Entries past the shorter column do not count.
 #[derive(Clone, Copy)]
-pub enum Counted {
-    Within(usize),
-    Over,
+pub struct Spans<'a> {
+    pub starts: &'a [f32],
+    pub durations: &'a [f32],
 }
 
-// What stays as it is over a walk. Where bounded is false, there is no largest number of cycles.
+impl<'a> Spans<'a> {
+    // How many entries there are.
+    #[tactic(auto, using(crate::proofs::Columns::all_long))]
+    pub fn len(self) -> usize
+        ensures { result ≡ length (ends self.entry) }
+    {
+        self.starts.len().min(self.durations.len())
+    }
+
+    // The first n of them, or all where there are fewer.
+    pub fn first(self, n: usize) -> Spans<'a>
+        ensures { ends result ≡ first_ends n self.entry }
+    {
+        let n = n.min(self.len());
+        Spans {
+            starts: &self.starts[..n],
+            durations: &self.durations[..n],
+        }
+    }
+}
+
+// What stays as it is over a walk.
 #[derive(Clone, Copy)]
 struct Walk {
     prev: f32,
     next: f32,
     period: f32,
-    bounded: bool,
-    max_cycles: u32,
+    max_cycles: Option<u32>,
 }
 
-// `(Some(max_cycles), period)`
-fn limited(prev: f32, next: f32, period: f32, most: u32) -> Walk
-    ensures { result ≡ limited_to prev next period most }
-{
-    Walk {
-        prev,
-        next,
-        period,
-        bounded: true,
-        max_cycles: most,
-    }
-}
-
-// `(None, period)`
-fn endless(prev: f32, next: f32, period: f32) -> Walk
-    ensures { result ≡ endlessly prev next period }
-{
-    Walk {
-        prev,
-        next,
-        period,
-        bounded: false,
-        max_cycles: 0,
-    }
-}
-
-// `match self.looping`: how many cycles there are, and how long each is.
-fn walk_of(mode: Loop, base: f32, prev: f32, next: f32) -> Walk
-    ensures { result ≡ walk_of mode base prev next }
-{
-    match mode {
-        Loop::Once => limited(prev, next, base, 1),
-        Loop::Times(n) => limited(prev, next, base, tween::loop_mode::passes(n)),
-        Loop::Forever => endless(prev, next, base),
-        Loop::PingPong => endless(prev, next, base * 2.0),
-        Loop::PingPongTimes(n) => {
-            let passes = tween::loop_mode::passes(n);
-            limited(prev, next, base * 2.0, passes / 2 + passes % 2)
-        }
-    }
-}
-
-// `(prev / period).max(0.0) as u32`
-fn first_cycle(w: Walk) -> u32
-    ensures { result ≡ first_cycle w }
-{
-    float32::to_u32(float32::max(w.prev / w.period, 0.0))
-}
-
-// `cycle as f32 * period`
-fn cycle_start(w: Walk, cycle: u32) -> f32
-    ensures { result ≡ cycle_start w cycle }
-{
-    float32::from_u32(cycle) * w.period
-}
-
-// Whether the loop breaks before this cycle.
-fn breaks_at(w: Walk, cycle: u32) -> bool
-    ensures { result ≡ breaks_at w cycle }
-{
-    if w.bounded {
-        if cycle >= w.max_cycles {
-            return true;
-        }
-    }
-    let start = cycle_start(w, cycle);
-    start > w.next
-}
-
-// Whether it does after the count went on to this cycle.
-#[tactic(auto, unfolding(crate::specs::Completions::stops_at))]
-fn stops_at(w: Walk, cycle: u32) -> bool
-    ensures { result ≡ stops_at w cycle }
-{
-    if cycle == 4294967295 {
-        return true;
-    }
-    breaks_at(w, cycle)
-}
-
-// `cycle.saturating_add(1)`
-fn next_cycle(cycle: u32) -> u32
-    ensures { result ≡ next_cycle cycle }
-{
-    if cycle < 4294967295 {
-        return cycle + 1;
-    }
-    4294967295
-}
-
-// `prev < completion && completion <= next`
-fn completes_in(w: Walk, start: f32, end: f32) -> bool
-    ensures { result ≡ completes w start end }
-{
-    let completion = start + end;
-    if w.prev < completion {
-        return completion <= w.next;
-    }
-    false
-}
-
-// How many of the first n entries complete in the cycle that starts at start.
-fn count_cycle(n: usize, starts: &[f32], durations: &[f32], w: Walk, start: f32) -> usize
-    requires { (n ≤ length starts.now) × (n ≤ length durations.now) }
-    ensures { result ≡ length (in_cycle w start 0 (ends_in n starts.now durations.now)) }
-{
-    let mut k: usize = 0;
-    let mut i: usize = 0;
-    while i < n {
-        if completes_in(w, start, starts[i] + durations[i]) {
-            k += 1;
-        }
-        i += 1;
-    }
-    k
-}
-
-// Writes their numbers from `at` on, and says where the next one goes.
-fn write_cycle(
-    n: usize,
-    starts: &[f32],
-    durations: &[f32],
-    w: Walk,
-    start: f32,
-    list: &mut [u8],
-    at: usize,
-) -> usize
-    requires { (n ≤ most_entries) × (n ≤ length starts.now) × (n ≤ length durations.now) × (at + length (in_cycle w start 0 (ends_in n starts.now durations.now)) ≤ length list.old) }
-    ensures { (result ≡ at + length (in_cycle w start 0 (ends_in n starts.now durations.now))) × (list.new ≡ sets list.old at (in_cycle w start 0 (ends_in n starts.now durations.now))) }
-{
-    let mut k = at;
-    let mut i: usize = 0;
-    while i < n {
-        if completes_in(w, start, starts[i] + durations[i]) {
-            list[k] = i as u8;
-            k += 1;
-        }
-        i += 1;
-    }
-    k
-}
-
-// The first pass: how many completions there are from the cycle first on, or that they are more than room.
-fn count_from(
-    n: usize,
-    starts: &[f32],
-    durations: &[f32],
-    w: Walk,
-    first: u32,
-    room: usize,
-) -> Counted
-    requires { (n ≤ length starts.now) × (n ≤ length durations.now) }
-    ensures { result ≡ counted (leb (length (cycles_from w (ends_in n starts.now durations.now) first)) room) (length (cycles_from w (ends_in n starts.now durations.now) first)) }
-{
-    let mut m: usize = 0;
-    let mut cycle = first;
-    let mut stop = breaks_at(w, cycle);
-    while !stop {
-        let start = cycle_start(w, cycle);
-        let k = count_cycle(n, starts, durations, w, start);
-        if room - m < k {
-            return Counted::Over;
-        }
-        m += k;
-        cycle = next_cycle(cycle);
-        stop = stops_at(w, cycle);
-    }
-    Counted::Within(m)
-}
-
-// The second pass: writes them over the front of a list that has room.
-fn write_from(n: usize, starts: &[f32], durations: &[f32], w: Walk, first: u32, list: &mut [u8])
-    requires { (n ≤ most_entries) × (n ≤ length starts.now) × (n ≤ length durations.now) × (length (cycles_from w (ends_in n starts.now durations.now) first) ≤ length list.old) }
-    ensures { list.new ≡ over (cycles_from w (ends_in n starts.now durations.now) first) list.old }
-{
-    let mut m: usize = 0;
-    let mut cycle = first;
-    let mut stop = breaks_at(w, cycle);
-    while !stop {
-        let start = cycle_start(w, cycle);
-        m = write_cycle(n, starts, durations, w, start, list, m);
-        cycle = next_cycle(cycle);
-        stop = stops_at(w, cycle);
-    }
-}
-
-// Both passes. Where there is nothing to write, the second is left out.
-fn list_from(
-    n: usize,
-    starts: &[f32],
-    durations: &[f32],
-    w: Walk,
-    first: u32,
-    list: &mut [u8],
-) -> Counted
-    requires { (n ≤ most_entries) × (n ≤ length starts.now) × (n ≤ length durations.now) }
-    ensures { Listed (cycles_from w (ends_in n starts.now durations.now) first) list.old list.new result }
-{
-    let room = list.len();
-    let counted = count_from(n, starts, durations, w, first, room);
-    match counted {
-        Counted::Within(m) => {
-            if m == 0 {
-                return Counted::Within(0);
+impl Walk {
+    // `match self.looping`: how many cycles there are, and how long each is.
+    fn over(mode: Loop, base: f32, prev: f32, next: f32) -> Walk
+        ensures { result ≡ walk_of mode base prev next }
+    {
+        let (max_cycles, period) = match mode {
+            Loop::Once => (Some(1), base),
+            Loop::Times(n) => (Some(passes(n)), base),
+            Loop::Forever => (None, base),
+            Loop::PingPong => (None, base * 2.0),
+            Loop::PingPongTimes(n) => {
+                let passes = passes(n);
+                (Some(passes / 2 + passes % 2), base * 2.0)
             }
-            write_from(n, starts, durations, w, first, list);
-            Counted::Within(m)
+        };
+        Walk {
+            prev,
+            next,
+            period,
+            max_cycles,
         }
-        Counted::Over => Counted::Over,
+    }
+
+    // `(prev / period).max(0.0) as u32`
+    fn first_cycle(self) -> u32
+        ensures { result ≡ first_cycle self }
+    {
+        float32::to_u32(float32::max(self.prev / self.period, 0.0))
+    }
+
+    // `cycle as f32 * period`
+    #[tactic(auto, unfolding(crate::specs::Completions::cycle_start))]
+    fn cycle_start(self, cycle: u32) -> f32
+        ensures { result ≡ cycle_start self cycle }
+    {
+        float32::from_u32(cycle) * self.period
+    }
+
+    // Whether the loop breaks before this cycle.
+    #[tactic(auto, unfolding(crate::specs::Completions::breaks_at))]
+    fn breaks_at(self, cycle: u32) -> bool
+        ensures { result ≡ breaks_at self cycle }
+    {
+        self.max_cycles.is_some_and(|most| cycle >= most) || self.cycle_start(cycle) > self.next
+    }
+
+    // Whether it does after the count went on to this cycle.
+    #[tactic(auto, unfolding(crate::specs::Completions::stops_at))]
+    fn stops_at(self, cycle: u32) -> bool
+        ensures { result ≡ stops_at self cycle }
+    {
+        cycle == u32::MAX || self.breaks_at(cycle)
+    }
+
+    // `prev < completion && completion <= next`
+    #[tactic(auto, unfolding(crate::specs::Completions::completes))]
+    fn completes(self, start: f32, end: f32) -> bool
+        ensures { result ≡ completes self start end }
+    {
+        let completion = start + end;
+        self.prev < completion && completion <= self.next
+    }
+
+    // How many of the entries complete in the cycle that starts at start.
+    fn count_cycle(self, spans: Spans, start: f32) -> usize
+        ensures { result ≡ length (in_cycle self start 0 (ends spans.entry)) }
+    {
+        // no `filter(..).count()`: tried and slower
+        let mut k: usize = 0;
+        for (s, d) in spans.starts.iter().zip(spans.durations) {
+            if self.completes(start, *s + *d) {
+                k += 1;
+            }
+        }
+        k
+    }
+
+    // Writes their numbers from `at` on, and says where the next one goes.
+    fn write_cycle(self, spans: Spans, start: f32, list: &mut [u8], at: usize) -> usize
+        requires { (length (ends spans) ≤ most_entries) × (at + length (in_cycle self start 0 (ends spans)) ≤ length list.old) }
+        ensures { (result ≡ at + length (in_cycle self start 0 (ends spans.entry))) × (list.new ≡ sets list.old at (in_cycle self start 0 (ends spans.entry))) }
+    {
+        let mut k = at;
+        for (i, (s, d)) in spans.starts.iter().zip(spans.durations).enumerate() {
+            if self.completes(start, *s + *d) {
+                list[k] = i as u8;
+                k += 1;
+            }
+        }
+        k
+    }
+
+    // The first pass: how many completions there are, or none where they are more than room.
+    fn count(self, spans: Spans, first: u32, room: usize) -> Option<usize>
+        ensures { result ≡ counted (leb (length (cycles_from self (ends spans.entry) first)) room) (length (cycles_from self (ends spans.entry) first)) }
+    {
+        // by `while`: the last cycle, u32::MAX, is gone over only where it is the first
+        let mut m: usize = 0;
+        let mut cycle = first;
+        let mut stop = self.breaks_at(cycle);
+        while !stop {
+            let k = self.count_cycle(spans, self.cycle_start(cycle));
+            if room - m < k {
+                return None;
+            }
+            m += k;
+            cycle = cycle.saturating_add(1);
+            stop = self.stops_at(cycle);
+        }
+        Some(m)
+    }
+
+    // The second pass: writes them over the front of a list that has room.
+    fn write(self, spans: Spans, first: u32, list: &mut [u8])
+        requires { (length (ends spans) ≤ most_entries) × (length (cycles_from self (ends spans) first) ≤ length list.old) }
+        ensures { list.new ≡ over (cycles_from self (ends spans.entry) first) list.old }
+    {
+        // by `while`: the last cycle, u32::MAX, is gone over only where it is the first
+        let mut m: usize = 0;
+        let mut cycle = first;
+        let mut stop = self.breaks_at(cycle);
+        while !stop {
+            m = self.write_cycle(spans, self.cycle_start(cycle), list, m);
+            cycle = cycle.saturating_add(1);
+            stop = self.stops_at(cycle);
+        }
+    }
+
+    // Both passes. Where there is nothing to write, the second is left out.
+    fn list(self, spans: Spans, list: &mut [u8]) -> Option<usize>
+        requires { length (ends spans) ≤ most_entries }
+        ensures { Listed (cycles_from self (ends spans.entry) (first_cycle self)) list.old list.new result }
+    {
+        let first = self.first_cycle();
+        let m = self.count(spans, first, list.len())?;
+        if m > 0 {
+            self.write(spans, first, list);
+        }
+        Some(m)
     }
 }
 
-// The walk over the first n entries, for a step that goes forward.
-fn list_in(
-    n: usize,
-    starts: &[f32],
-    durations: &[f32],
-    base: f32,
-    mode: Loop,
-    prev: f32,
-    next: f32,
-    list: &mut [u8],
-) -> Counted
-    requires { (n ≤ most_entries) × (n ≤ length starts.now) × (n ≤ length durations.now) × (lt prev next ≡ true) }
-    ensures { Listed (completions_in mode (ends_in n starts.now durations.now) base prev next) list.old list.new result }
-{
-    if base <= 0.0 {
-        return Counted::Within(0);
-    }
-    let w = walk_of(mode, base, prev, next);
-    let period = w.period;
-    if period <= 0.0 {
-        return Counted::Within(0);
-    }
-    let first = first_cycle(w);
-    list_from(n, starts, durations, w, first, list)
-}
-
-// How many of the first count entries the columns have.
-fn held(count: usize, starts: &[f32], durations: &[f32]) -> usize
-    ensures { result ≡ length (ends_in count starts.now durations.now) }
-{
-    least(count, least(starts.len(), durations.len()))
-}
-
-// The larger of the two: `acc.max(end)`, where acc is no NaN.
+// The larger of the two: `acc.max(end)`, where acc is no NaN. One test, where `float32::max` has two.
 fn later(acc: f32, end: f32) -> f32
     requires { is_nan acc ≡ false }
     ensures { result ≡ max_f acc end }
@@ -290,47 +207,39 @@ fn later(acc: f32, end: f32) -> f32
     if acc < end { end } else { acc }
 }
 
-// The base of the first n entries.
-fn base_of(n: usize, starts: &[f32], durations: &[f32]) -> f32
-    requires { (n ≤ length starts.now) × (n ≤ length durations.now) }
-    ensures { result ≡ foldl max_f zero_f (ends_in n starts.now durations.now) }
+// The base of the first count entries: `Timeline::duration`.
+pub fn base(count: usize, spans: Spans) -> f32
+    ensures { result ≡ foldl max_f zero_f (first_ends count spans.entry) }
 {
+    let spans = spans.first(count);
     let mut base: f32 = 0.0;
-    let mut i: usize = 0;
-    while i < n {
-        base = later(base, starts[i] + durations[i]);
-        i += 1;
+    for (start, duration) in spans.starts.iter().zip(spans.durations) {
+        base = later(base, *start + *duration);
     }
     base
 }
 
-// The base of the first count entries: `Timeline::duration`.
-pub fn base(count: usize, starts: &[f32], durations: &[f32]) -> f32
-    ensures { result ≡ foldl max_f zero_f (ends_in count starts.now durations.now) }
-{
-    let n = held(count, starts, durations);
-    base_of(n, starts, durations)
-}
-
-// The completions of the first count entries from prev to next, over the front of the list, where it has room for them all.
-// Where next is not past prev, or one of the two is a NaN, there are none.
+// The completions of the first count entries from prev to next, over the front of the list: how many they are, or none where
+// they outnumber the list. Where next is not past prev, or one of the two is a NaN, there are no completions.
 pub fn between(
     count: usize,
-    starts: &[f32],
-    durations: &[f32],
+    spans: Spans,
     base: f32,
     mode: Loop,
     prev: f32,
     next: f32,
     list: &mut [u8],
-) -> Counted
-    ensures { Listed (empty_at_nan prev next (completions_in mode (ends_in (min count most_entries) starts.now durations.now) base prev next)) list.old list.new result }
+) -> Option<usize>
+    ensures { Listed (empty_at_nan prev next (completions_in mode (first_ends (min count most_entries) spans.entry) base prev next)) list.old list.new result }
 {
-    if prev < next {
-        let n = held(least(count, MOST_ENTRIES), starts, durations);
-        return list_in(n, starts, durations, base, mode, prev, next, list);
+    if !(prev < next) || base <= 0.0 {
+        return Some(0);
     }
-    Counted::Within(0)
+    let walk = Walk::over(mode, base, prev, next);
+    if walk.period <= 0.0 {
+        return Some(0);
+    }
+    walk.list(spans.first(count.min(MOST_ENTRIES)), list)
 }
 
 // The claims of specs/Claims.antt hold.

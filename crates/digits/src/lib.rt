@@ -1,4 +1,5 @@
-// Numbers as text, in ASCII, put into a lent slice. A text that has no room there is not written, and the count is 0. And bytes as wider numbers.
+// Numbers as text, in ASCII, put into a lent slice. A text that has no room there is not written, and the count is 0.
+// Put by hand: `write!` writes at the end of a text, and what had no room is lost or cut.
 #![tactic(auto)]
 
 ghost use Rattle.std.specs.Prelude.{◌≡◌, ◌+◌, ◌<◌, ◌≤◌, leb, length};
@@ -6,6 +7,7 @@ ghost use Rattle.digits.specs.Digits.{code_of, digits, hex_text, decimal_places,
 ghost use Rattle.digits.specs.Claim.{Claim};
 
 // Writes n at `at` in decimal, and answers how many bytes were written.
+#[tactic(auto, unfolding(crate::specs::Digits::decimal))]
 pub fn put_decimal(n: usize, out: &mut [u8], at: usize) -> usize
     ensures { Put (decimal n) at out.old out.new result }
 {
@@ -23,15 +25,16 @@ pub fn put_hex8(n: u32, out: &mut [u8], at: usize) -> usize
 pub fn put_hex2(n: u8, out: &mut [u8], at: usize) -> usize
     ensures { Put (hex_text 2 n) at out.old out.new result }
 {
-    put_digits(n as usize, 16, 2, out, at)
+    put_digits(usize::from(n), 16, 2, out, at)
 }
 
-// How many digits n has in decimal.
+// How many digits n has in decimal. A `while`, since it goes until the rest is small and counts the turns: no range says that plainer.
+#[tactic(auto, using(crate::proofs::Places::places_small, crate::proofs::Places::places_large))]
 fn decimal_places(n: usize) -> usize
     ensures { result ≡ decimal_places n }
 {
     let mut rest = n;
-    let mut places = 1usize;
+    let mut places = 1;
     while rest >= 10 {
         rest /= 10;
         places += 1;
@@ -40,15 +43,16 @@ fn decimal_places(n: usize) -> usize
 }
 
 // Writes the last width digits of n at `at`, where they have room.
+#[tactic(auto, using(crate::proofs::Length::length_digits), unfolding(crate::specs::Digits::written, crate::specs::Digits::written_count))]
 fn put_digits(n: usize, base: usize, width: usize, out: &mut [u8], at: usize) -> usize
     requires { (0 < base) × (base ≤ 16) }
     ensures { Put (digits base width n) at out.old out.new result }
 {
-    if fits(width, at, out.len()) {
-        write_digits(n, base, width, out, at);
-        return width;
+    if !fits(width, at, out.len()) {
+        return 0;
     }
-    0
+    write_digits(n, base, width, out, at);
+    width
 }
 
 // From the last digit to the first.
@@ -58,45 +62,30 @@ fn write_digits(n: usize, base: usize, width: usize, out: &mut [u8], at: usize)
     ensures { out.new ≡ put_at (digits base width n) at out.old }
 {
     let mut rest = n;
-    let mut i = width;
-    while i > 0 {
-        i -= 1;
-        let offset = at + i;
-        out[offset] = code_of((rest % base) as u8);
+    for i in (0..width).rev() {
+        out[at + i] = code_of((rest % base) as u8);
         rest /= base;
     }
 }
 
 // The ASCII code of a digit.
+#[tactic(auto, unfolding(crate::specs::Digits::code_of))]
 fn code_of(digit: u8) -> u8
     requires { digit < 16 }
     ensures { result ≡ code_of digit }
 {
-    if digit < 10 { 48 + digit } else { 87 + digit }
+    if digit < 10 {
+        b'0' + digit
+    } else {
+        b'a' + (digit - 10)
+    }
 }
 
 // Whether width bytes have room from `at` on in len.
 fn fits(width: usize, at: usize, len: usize) -> bool
     ensures { result ≡ leb (at + width) len }
 {
-    if len < at {
-        return false;
-    }
-    width <= len - at
-}
-
-// The same number, as a u32.
-pub fn wide(byte: u8) -> u32
-    ensures { (result ≡ byte) × (result < 256) }
-{
-    byte as u32
-}
-
-// The same number, as a usize.
-pub fn wide_usize(byte: u8) -> usize
-    ensures { (result ≡ byte) × (result < 256) }
-{
-    byte as usize
+    at <= len && width <= len - at
 }
 
 // What is claimed of the texts, as a contract: without it the crate is not proved.

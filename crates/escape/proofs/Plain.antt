@@ -1,20 +1,10 @@
 -- Which bytes stand for themselves.
-use Prim.Native.Nat.{ℕ, ◌≤◌, ◌<◌}
-use mathlib.Core.Path.{◌≡◌, refl, sym}
-use mathlib.Core.Bool.{Bool, true, false, ◌&&◌, and-true, false≢true}
-use borrow.Author.Tests.{le-leb, lt-leb, ne_eqb, leb-true, not-true}
+use Prim.Native.Nat.{ℕ, ◌≤◌}
+use mathlib.Core.Path.{◌≡◌, refl}
+use mathlib.Core.Bool.{Bool, true, false, ◌&&◌, false≢true}
+use borrow.Author.Tests.{leb-true, not-true}
 use lib.Dec.{leb, eqb}
 use Rattle.escape.specs.Escape.{plain}
-
--- ---- the test, as it is taken
-
-pub plain-low : (b : ℕ) → b < 32 → leb 32 b ≡ plain b
-plain-low b h = rw (lt-leb 32 b h)
-
-pub plain-high : (b : ℕ) → 32 ≤ b → (b ≡ 92 → ⊥) → leb b 126 ≡ plain b
-plain-high b h n = rw (le-leb 32 b h, ne_eqb b 92 n) (sym (and-true (leb b 126)))
-
--- ---- what the test tells
 
 and_both : (s t : Bool) → s && t ≡ true → (s ≡ true) × (t ≡ true)
 and_both true t e = (refl, e)

@@ -1,18 +1,17 @@
 -- The text of a byte, of bytes one more at each turn, and how it is put into a slice.
 use Prim.Native.Nat.{ℕ, ◌+◌, ◌*◌, ◌≤◌, ◌<◌}
-use mathlib.Core.Path.{◌≡◌, refl, sym, ap, ◌∙◌}
+use mathlib.Core.Path.{◌≡◌, refl, sym, ◌∙◌}
 use mathlib.Core.Bool.{Bool, true, false}
 use mathlib.Core.List.{List, [], ◌∷◌, ◌++◌, append_assoc, append-nil}
 use native.Mathlib.Numerals.{add-one}
 use native.Mathlib.Omega.{arith}
 use lib.ListN.{length, take, get_or, set, length-set, length-append}
-use lib.Seq.{take-suc, sets-eq}
+use lib.Seq.{take-suc, take_all, sets-eq}
 use Rattle.digits.specs.Digits.{hex_text, put_at, Put}
 use Rattle.digits.proofs.Length.{length_digits}
 use Rattle.digits.proofs.PutAt.{put_at_nil, put_at_append}
 use Rattle.digits.proofs.Room.{written-whole}
-use Rattle.escape.specs.declared.Escaped.{Escaped}
-use Rattle.escape.specs.Escape.{plain, escaped_byte, escaped, taken, escaped_by, escaped_room}
+use Rattle.escape.specs.Escape.{plain, escaped_byte, escaped}
 
 -- ---- a byte
 
@@ -66,37 +65,35 @@ escaped-snoc xs b = escaped-append xs (b ∷ []) ∙ rw (append-nil (escaped_byt
 escaped-more : (bytes : List ℕ) (i : ℕ) → i < length bytes → escaped (take (i + 1) bytes) ≡ escaped (take i bytes) ++ escaped_byte (get_or bytes i 0)
 escaped-more bytes i h = rw (add-one i, take-suc bytes i 0 h) (escaped-snoc (take i bytes) (get_or bytes i 0))
 
--- after the bytes passed so far, out has their text of len codes over the front of old
-pub record Passed (bytes old out : List ℕ) (count used len : ℕ) : Type 0 where
-  pub all : count ≡ taken bytes old
-  pub within : used ≤ count
-  pub few : len ≤ 4 * used
+-- after i of the bytes, out has their text of len codes over the front of old
+pub record Passed (bytes old out : List ℕ) (i len : ℕ) : Type 0 where
+  pub room : 4 * length bytes ≤ length old
+  pub few : len ≤ 4 * i
   pub same : length out ≡ length old
-  pub counted : len ≡ length (escaped (take used bytes))
-  pub text : out ≡ put_at (escaped (take used bytes)) 0 old
+  pub counted : len ≡ length (escaped (take i bytes))
+  pub text : out ≡ put_at (escaped (take i bytes)) 0 old
 
-module _ (bytes old : List ℕ) (count : ℕ) where
+module _ (bytes old : List ℕ) where
   -- before the first turn
-  pub none_passed : count ≡ taken bytes old → Passed bytes old old count 0 0
+  pub none_passed : 4 * length bytes ≤ length old → Passed bytes old old 0 0
   unfolding escaped
-  none_passed e =
-      record { all = e; within = omega arith; few = omega arith; same = refl; counted = refl; text = sym (put_at_nil 0 old) }
+  none_passed h =
+      record { room = h; few = omega arith; same = refl; counted = refl; text = sym (put_at_nil 0 old) }
 
   -- a turn
-  pub one-passed : (out new : List ℕ) (used len n : ℕ) → Passed bytes old out count used len → used < count → length new ≡ length out
-      → (n ≡ length (escaped_byte (get_or bytes used 0))) × (new ≡ put_at (escaped_byte (get_or bytes used 0)) len out)
-      → Passed bytes old new count (used + 1) (len + n)
-  one-passed out new used len n p h s w =
-      let b = get_or bytes used 0 in
-      let before = escaped (take used bytes) in
-      let more = escaped-more bytes used (omega arith) in
+  pub one-passed : (out new : List ℕ) (i len n : ℕ) → Passed bytes old out i len → i < length bytes → length new ≡ length out
+      → (n ≡ length (escaped_byte (get_or bytes i 0))) × (new ≡ put_at (escaped_byte (get_or bytes i 0)) len out)
+      → Passed bytes old new (i + 1) (len + n)
+  one-passed out new i len n p h s w =
+      let b = get_or bytes i 0 in
+      let before = escaped (take i bytes) in
+      let more = escaped-more bytes i h in
       let few = byte_few b in
       let l = length-append before (escaped_byte b) in
       let place : len ≡ 0 + length before = omega arith in
       let room : 0 + length (before ++ escaped_byte b) ≤ length old = omega arith in
       record {
-        all = p.all;
-        within = omega arith;
+        room = p.room;
         few = omega arith;
         same = s ∙ p.same;
         counted = rw more (omega arith);
@@ -104,8 +101,5 @@ module _ (bytes old : List ℕ) (count : ℕ) where
       }
 
   -- after the last
-  pub all-passed : (out : List ℕ) (used len : ℕ) → Passed bytes old out count used len → count ≤ used
-      → (◌≡◌ {A = Escaped} (record { used = used; len = len }) (escaped_by bytes old)) × (out ≡ escaped_room bytes old)
-  all-passed out used len p h =
-      let e : used ≡ taken bytes old = omega arith in
-      rw (← e) (ap (λ (n : ℕ). record { used = used; len = n }) p.counted, p.text)
+  pub all-passed : (out : List ℕ) (i len : ℕ) → Passed bytes old out i len → length bytes ≤ i → (len ≡ length (escaped bytes)) × (out ≡ put_at (escaped bytes) 0 old)
+  all-passed out i len p h = rw (← take_all i bytes h) (p.counted, p.text)

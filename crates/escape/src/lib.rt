@@ -6,9 +6,7 @@ ghost use Rattle.digits.specs.Digits.{put_at};
 ghost use Rattle.escape.specs.Escape.{plain, escaped_byte, escaped_by, escaped_room};
 ghost use Rattle.escape.specs.Claim.{Claim};
 
-use steps::least;
-
-// How many bytes were taken, and how many bytes their text has.
+// How many bytes were taken, and how many bytes their text has. Two numbers of one meaning each: neither says whether the other holds.
 #[derive(Clone, Copy)]
 pub struct Escaped {
     pub used: usize,
@@ -20,12 +18,10 @@ pub fn escape(bytes: &[u8], room: &mut [u8]) -> Escaped
     ensures value { result ≡ escaped_by bytes.now room.old }
     ensures room_after { room.new ≡ escaped_room bytes.now room.old }
 {
-    let count = least(bytes.len(), room.len() / 4);
-    let mut used = 0usize;
-    let mut len = 0usize;
-    while used < count {
-        len += put_escaped(bytes[used], room, len);
-        used += 1;
+    let used = bytes.len().min(room.len() / 4);
+    let mut len = 0;
+    for byte in &bytes[..used] {
+        len += put_escaped(*byte, room, len);
     }
     Escaped { used, len }
 }
@@ -48,10 +44,7 @@ fn put_escaped(byte: u8, out: &mut [u8], at: usize) -> usize
 fn is_plain(byte: u8) -> bool
     ensures { result ≡ plain byte }
 {
-    if byte == b'\\' {
-        return false;
-    }
-    byte >= 32 && byte <= 126
+    byte != b'\\' && matches!(byte, b' '..=b'~')
 }
 
 // What is claimed of the texts, as a contract: without it the crate is not proved.

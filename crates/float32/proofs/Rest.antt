@@ -31,32 +31,29 @@ mod_scaled a b c C = elim (eq-zero-or-pos b) [
 ]
 
 -- from 24 places on nothing is taken off
-pub small-rest : (q d k : ℕ) → q < 2 ^ 24 → 0 < d → 24 ≤ k → q ≡ q % (d * 2 ^ k)
-small-rest q d k h D l =
+pub small_rest : (q d k : ℕ) → q < 2 ^ 24 → 0 < d → 24 ≤ k → q ≡ q % (d * 2 ^ k)
+small_rest q d k h D l =
     let wide : 2 ^ k ≤ d * 2 ^ k = subst (λ (x : ℕ). x ≤ d * 2 ^ k) (one-mul (2 ^ k)) (mul-le-mul_right (2 ^ k) D) in
     sym (mod-eq_of_lt (lt_of_lt_of_le h (le_trans (pow_mono {i = 24} {j = k} l) wide)))
 
 -- 32 places at a time
-pub rest-turn : (r d k : ℕ) → r < 2 ^ 24 → 32 ≤ k → r * 2 ^ 32 % 2 ^ 64 % d * 2 ^ (k - 32) % d ≡ r * 2 ^ k % d
-rest-turn r d k h l =
-    ap (λ (x : ℕ). x % d * 2 ^ (k - 32) % d) (shl_exact 24 32 64 h (lit≤ tt))
-    ∙ mul-mod_first (r * 2 ^ 32) (2 ^ (k - 32)) d
-    ∙ ap (λ (x : ℕ). x % d) (mul_assoc r (2 ^ 32) (2 ^ (k - 32)) ∙ ap (λ (x : ℕ). r * x) (sym (pow-add 2 32 (k - 32)) ∙ ap (λ (x : ℕ). 2 ^ x) sum))
-  where
-    sum : 32 + (k - 32) ≡ k
-    sum = omega arith
+pub rest-turn : (r d j k : ℕ) → r < 2 ^ 24 → 32 + j ≡ k → r * 2 ^ 32 % 2 ^ 64 % d * 2 ^ j % d ≡ r * 2 ^ k % d
+rest-turn r d j k h e =
+    ap (λ (x : ℕ). x % d * 2 ^ j % d) (shl_exact 24 32 64 h (lit≤ tt))
+    ∙ mul-mod_first (r * 2 ^ 32) (2 ^ j) d
+    ∙ ap (λ (x : ℕ). x % d) (mul_assoc r (2 ^ 32) (2 ^ j) ∙ ap (λ (x : ℕ). r * x) (sym (pow-add 2 32 j) ∙ ap (λ (x : ℕ). 2 ^ x) e))
 
 -- a remainder of scaled numbers is one of the lower scale
-pub rest-scaled : (q p d e r : ℕ) → p ≤ e → r ≡ q % (d * 2 ^ (e - p)) → r * 2 ^ p ≡ q * 2 ^ p % (d * 2 ^ e)
-rest-scaled q p d e r l h =
+pub rest_scaled : (q p d e r : ℕ) → p ≤ e → r ≡ q % (d * 2 ^ (e - p)) → r * 2 ^ p ≡ q * 2 ^ p % (d * 2 ^ e)
+rest_scaled q p d e r l h =
     ap (λ (x : ℕ). x * 2 ^ p) h ∙ sym (mod_scaled q (d * 2 ^ (e - p)) (2 ^ p) (pow_pos p))
     ∙ ap (λ (x : ℕ). q * 2 ^ p % x) (mul_assoc d (2 ^ (e - p)) (2 ^ p) ∙ ap (λ (x : ℕ). d * x) (sym (pow-add 2 (e - p) p) ∙ ap (λ (x : ℕ). 2 ^ x) sum))
   where
     sum : e - p + p ≡ e
     sum = omega arith
 
-pub rest-lower : (q p d e r : ℕ) → e ≤ p → r ≡ q * 2 ^ (p - e) % d → r * 2 ^ e ≡ q * 2 ^ p % (d * 2 ^ e)
-rest-lower q p d e r l h =
+pub rest_lower : (q p d e r : ℕ) → e ≤ p → r ≡ q * 2 ^ (p - e) % d → r * 2 ^ e ≡ q * 2 ^ p % (d * 2 ^ e)
+rest_lower q p d e r l h =
     ap (λ (x : ℕ). x * 2 ^ e) h ∙ sym (mod_scaled (q * 2 ^ (p - e)) d (2 ^ e) (pow_pos e))
     ∙ ap (λ (x : ℕ). x % (d * 2 ^ e)) (mul_assoc q (2 ^ (p - e)) (2 ^ e) ∙ ap (λ (x : ℕ). q * x) (sym (pow-add 2 (p - e) e) ∙ ap (λ (x : ℕ). 2 ^ x) sum))
   where

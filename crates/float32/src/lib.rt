@@ -8,30 +8,21 @@ ghost use lib.Ieee.Exact.{HasValue};
 ghost use Rattle.float32.specs.Parts.{field_of, digits_in, scale_of, unit_pattern};
 ghost use Rattle.float32.specs.Helpers.{max_f, min_f, clamp_f, finite_f, infinity_f, from_u32, to_u32, from_bits, to_bits};
 
-// `a.max(b)`: a NaN operand gives the other one, equal operands the first.
+// `a.max(b)`: a NaN operand gives the other one, equal operands the first. Where the language's own may give either zero, the paper
+// wants the first, so this and `min` are tests of our own.
+#[tactic(auto, unfolding(crate::specs::Helpers::max_f))]
 pub fn max(a: f32, b: f32) -> f32
     ensures { result ≡ max_f a b }
 {
-    if a != a {
-        b
-    } else if a < b {
-        b
-    } else {
-        a
-    }
+    if is_nan(a) || a < b { b } else { a }
 }
 
 // `a.min(b)`, likewise.
+#[tactic(auto, unfolding(crate::specs::Helpers::min_f))]
 pub fn min(a: f32, b: f32) -> f32
     ensures { result ≡ min_f a b }
 {
-    if a != a {
-        b
-    } else if b < a {
-        b
-    } else {
-        a
-    }
+    if is_nan(a) || b < a { b } else { a }
 }
 
 // `x.clamp(lo, hi)`: a NaN is kept.
@@ -49,6 +40,7 @@ pub fn clamp(x: f32, lo: f32, hi: f32) -> f32
 }
 
 // `x.is_nan()`
+#[tactic(auto, using(crate::proofs::Nan::ne_self))]
 pub fn is_nan(x: f32) -> bool
     ensures { result ≡ Ieee.is_nan x }
 {
@@ -63,21 +55,23 @@ fn exponent_of(bits: u32) -> u32
 }
 
 // `x.is_finite()`: the exponent's field is not all ones. A NaN is tested first, since its bits are left open.
+#[tactic(auto, using(crate::proofs::Nan::finite_nan, crate::proofs::Nan::finite_field))]
 pub fn is_finite(x: f32) -> bool
     ensures { result ≡ finite_f x }
 {
-    if x != x {
+    if is_nan(x) {
         return false;
     }
-    let bits: u32 = f32::to_bits(x);
+    let bits = x.to_bits();
     exponent_of(bits) != 255
 }
 
 // The count of n's binary digits.
+#[tactic(auto, using(crate::proofs::Digits::size_leading))]
 fn size(n: u32) -> u32
     ensures { result ≡ Ieee.size n }
 {
-    32 - u32::leading_zeros(n)
+    32 - n.leading_zeros()
 }
 
 // n / unit, rounded to the nearest whole number, a tie to the even one.
@@ -145,10 +139,10 @@ pub fn to_u32(x: f32) -> u32
 {
     if x > -1.0 {
         if x < 4294967296.0 {
-            let bits: u32 = f32::to_bits(x);
+            let bits = x.to_bits();
             return whole_part(digits_of(bits), exponent_of(bits));
         }
-        return 4294967295;
+        return u32::MAX;
     }
     0
 }
@@ -164,20 +158,22 @@ pub fn infinity() -> f32
 pub fn from_bits(bits: u32) -> f32
     ensures { result ≡ from_bits bits }
 {
-    if bits % 0x8000_0000 > 0x7f80_0000 {
+    let nan = bits % 0x8000_0000 > 0x7f80_0000;
+    if nan {
         return 0.0 / 0.0;
     }
     f32::from_bits(bits)
 }
 
 // `f32::to_bits`; 7fc00000 for every NaN, where the language leaves it open.
+#[tactic(auto, using(crate::proofs::NanBits::nan_bits_lem))]
 pub fn to_bits(x: f32) -> u32
     ensures { result ≡ to_bits x }
 {
-    if x != x {
+    if is_nan(x) {
         return 0x7fc0_0000;
     }
-    f32::to_bits(x)
+    x.to_bits()
 }
 
 // ---- the remainder, in whole numbers: a finite value is its digits times 2^scale of the smallest values, 2^-149
@@ -203,14 +199,8 @@ fn scale_of(bits: u32) -> u32
     field - 1
 }
 
-// The lower of two scales.
-fn lower(p: u32, e: u32) -> u32
-    ensures { result ≡ min p e }
-{
-    if e < p { e } else { p }
-}
-
 // q % (d * 2^k). From 24 places on q is below that.
+#[tactic(auto, using(crate::proofs::Rest::small_rest))]
 fn rest_above(q: u32, d: u32, k: u32) -> u32
     requires { (q < 2 ^ 24) × (0 < d) × (d < 2 ^ 24) }
     ensures { result ≡ q % (d * 2 ^ k) }
@@ -218,8 +208,8 @@ fn rest_above(q: u32, d: u32, k: u32) -> u32
     if k >= 24 {
         return q;
     }
-    let divisor = (d as u64) << k;
-    ((q as u64) % divisor) as u32
+    let divisor = u64::from(d) << k;
+    (u64::from(q) % divisor) as u32
 }
 
 // q * 2^k % d, by 32 places at a time.
@@ -227,17 +217,16 @@ fn rest_below(q: u32, d: u32, k: u32) -> u32
     requires { (0 < d) × (d < 2 ^ 24) }
     ensures { result ≡ q * 2 ^ k % d }
 {
-    let divisor = d as u64;
-    let mut rest = (q % d) as u64;
-    let mut left = k;
-    while left > 32 {
+    let divisor = u64::from(d);
+    let mut rest = u64::from(q % d);
+    for _ in 0..k / 32 {
         rest = (rest << 32) % divisor;
-        left -= 32;
     }
-    ((rest << left) % divisor) as u32
+    ((rest << (k % 32)) % divisor) as u32
 }
 
 // The digits that are left of q * 2^p after as many d * 2^e as go into it, in units of the lower scale.
+#[tactic(auto, using(crate::proofs::Rest::rest_scaled, crate::proofs::Rest::rest_lower))]
 fn rest_of(q: u32, p: u32, d: u32, e: u32) -> u32
     requires { (q < 2 ^ 24) × (0 < d) × (d < 2 ^ 24) }
     ensures value { result * 2 ^ min p e ≡ q * 2 ^ p % (d * 2 ^ e) }
@@ -277,8 +266,8 @@ fn finite_remainder(x: f32, y: f32) -> f32
     requires { (finite_f x ≡ true) × (finite_f y ≡ true) }
     ensures { result ≡ Ieee.rem Ieee.binary32 x y }
 {
-    let a: u32 = f32::to_bits(x);
-    let b: u32 = f32::to_bits(y);
+    let a = x.to_bits();
+    let b = y.to_bits();
     let divisor = digits_in(b);
     if divisor == 0 {
         return 0.0 / 0.0;
@@ -286,7 +275,7 @@ fn finite_remainder(x: f32, y: f32) -> f32
     let p = scale_of(a);
     let e = scale_of(b);
     let digits = rest_of(digits_in(a), p, divisor, e);
-    let unit = unit_of(a >= 0x8000_0000, lower(p, e));
+    let unit = unit_of(a >= 0x8000_0000, p.min(e));
     from_u32(digits) * unit
 }
 
@@ -297,7 +286,7 @@ pub fn remainder(x: f32, y: f32) -> f32
     if !is_finite(x) {
         return 0.0 / 0.0;
     }
-    if y != y {
+    if is_nan(y) {
         return y;
     }
     if !is_finite(y) {

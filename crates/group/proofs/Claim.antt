@@ -1,18 +1,14 @@
 -- The claim of crate history covers what the builders hand out and what the controls leave, and an accepted builder's calls are accepted.
 use Prim.Native.Nat.{ℕ, ◌+◌, ◌≤◌}
 use mathlib.Core.Path.{◌≡◌, refl, ap, ◌∙◌}
-use mathlib.Core.Bool.{Bool, true, false, cond, ◌||◌}
+use mathlib.Core.Bool.{Bool, true, false, cond}
 use mathlib.Core.List.{List, [], ◌∷◌}
 use native.Mathlib.Omega.{arith}
-use lib.Dec.{eqb, ltb}
+use lib.Dec.{eqb}
 use lib.ListN.{length}
 use lib.Ieee.{Float}
 use Rattle.float32.specs.Helpers.{zero_f, max_f}
-use Rattle.refusal.specs.Refusal.{accepted, grid_too_large}
-use Rattle.tween.specs.declared.stagger_pattern.Delay.{Delay}
-use Rattle.tween.specs.declared.stagger_pattern.StaggerPattern.{StaggerPattern}
-use Rattle.tween.specs.declared.stagger_pattern.StaggerPattern.TheVariants.{Grid, Random, CenterOut, EdgesIn}
-use Rattle.tween.specs.StaggerPattern.{max_side, grid_delay, accepted_delay, refused_delay, delay_of}
+use Rattle.refusal.specs.Refusal.{accepted}
 use Rattle.steps.specs.Times.{max_entries}
 use Rattle.track.specs.Tracks.{empty_track}
 use Rattle.track.specs.Calls.{SetTimeScale, Play, Pause, Resume, Reset, Seek, Update}
@@ -20,26 +16,26 @@ use Rattle.timeline.specs.declared.timeline.At.{At}
 use Rattle.timeline.specs.declared.timeline.At.TheVariants.{Absolute}
 use Rattle.timeline.specs.declared.timeline.Timeline.{Timeline}
 use Rattle.timeline.specs.Placements.{empty}
-use Rattle.timeline.specs.Calls.{Call, Add, AddBoxed, On, Out, step, after, added_by}
+use Rattle.timeline.specs.Calls.{Call, Add, AddBoxed, On, Out, step, after}
 use Rattle.history.specs.Claim.{AllBuild}
 use Rattle.history.specs.Covered.{Covered}
 use Rattle.history.proofs.Covered.{coverage}
 use Rattle.group.specs.declared.group.AnimationGroup.{AnimationGroup}
 use Rattle.group.specs.declared.sequence.Sequence.{Sequence}
-use Rattle.group.specs.declared.sequence.Sequenced.{Sequenced}
 use Rattle.group.specs.Items.{item_label, item_calls, built_by}
-use Rattle.group.specs.Sequence.{SequenceCall, Then, ThenFor, Gap, new_sequence, cursor_after, then_by, sequence_step, sequence_after}
+use Rattle.group.specs.Sequence.{SequenceCall, Sequenced, Then, ThenFor, Gap, new_sequence, cursor_after, then_by, sequence_step, sequence_after}
 use Rattle.group.specs.Stagger.{staggered}
 use Rattle.group.specs.Group.{parallel_of, sequence_of, stagger_of, reverse_call}
 use Rattle.group.specs.Claim.{CoveredGroup, Controlled, Claim}
 use Rattle.group.proofs.Items.{item_added}
+use Rattle.group.proofs.Patterns.{patterns}
 
 -- ---- sequences
 either_covered : (b : Bool) (x y : Sequenced) → Covered x.sequence.inner → Covered y.sequence.inner → Covered (cond b x y).sequence.inner
 either_covered true x y p q = p
 either_covered false x y p q = q
 
-then_covered : (s : Sequence) (call : Call) (duration : Float) → Covered s.inner → Covered (then_by s (added_by (step s.inner call)) duration).sequence.inner
+then_covered : (s : Sequence) (call : Call) (duration : Float) → Covered s.inner → Covered (then_by s (step s.inner call) duration).sequence.inner
 unfolding then_by
 then_covered s call duration m =
     let o = step s.inner call in
@@ -88,19 +84,6 @@ accepts at (d ∷ ds) t i e h =
     let a = item_added t i (at i) d e (omega arith) in
     let n = ap (λ (o : Out). o.timeline.track.count) a ∙ ap (λ (k : ℕ). k + 1) e in
     (refl, rw a, accepts at ds (step t (Add (item_label i) (at i) d)).timeline (i + 1) n (omega arith))
-
--- ---- patterns
-either_refusal : (b : Bool) (d x y : Delay) → x.refusal ≡ y.refusal → (cond b d x).refusal ≡ (cond b d y).refusal
-either_refusal true d x y e = refl
-either_refusal false d x y e = e
-
-patterns : (p : StaggerPattern) (i : ℕ) → (delay_of p i).refusal ≡ (delay_of p 0).refusal
-patterns (Grid cols rows origin step) i =
-    let at : ℕ → Delay = λ k. accepted_delay (grid_delay cols rows origin step k) in
-    either_refusal (ltb max_side cols || ltb max_side rows) (refused_delay grid_too_large) (at i) (at 0) refl
-patterns (Random seed min_delay max_delay) i = refl
-patterns (CenterOut count step) i = refl
-patterns (EdgesIn count step) i = refl
 
 pub claim : Claim
 unfolding staggered parallel_of sequence_of stagger_of built_by empty empty_track

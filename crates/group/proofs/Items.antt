@@ -4,11 +4,13 @@ use mathlib.Core.Path.{◌≡◌, refl, sym, ap, ◌∙◌}
 use mathlib.Core.Bool.{Bool, true, false, cond}
 use mathlib.Core.List.{List, ◌++◌}
 use native.Mathlib.Omega.{arith}
-use borrow.Author.Tests.{ltb-false, eqb-false, ne_eqb}
-use lib.Dec.{eqb, ltb, lit≤}
+use borrow.Author.Tests.{ltb-false, ne_eqb}
+use lib.Dec.{ltb, lit≤}
 use lib.ListN.{length, take, length-append, length-take}
 use lib.Ieee.{Float}
-use Rattle.refusal.specs.Refusal.{accepted, timeline_full}
+use Rattle.std.specs.Prelude.{Ok, Err}
+use Rattle.refusal.specs.declared.Refusal.{Refusal}
+use Rattle.refusal.specs.Refusal.{accepted, timeline_full, number}
 use Rattle.digits.specs.Digits.{decimal, put_at, Put}
 use Rattle.digits.proofs.Claim.{decimal-least, decimal-word}
 use Rattle.digits.proofs.Room.{written-whole}
@@ -20,7 +22,8 @@ use Rattle.timeline.specs.declared.timeline.Timeline.{Timeline}
 use Rattle.timeline.specs.Placements.{empty, resolve_start, grown}
 use Rattle.timeline.specs.Calls.{Call, Add, silent, step, after}
 use Rattle.timeline.proofs.Growing.{grows}
-use Rattle.group.specs.Items.{item_prefix, item_label, too_many, first_refusal, built_from, refused_with, built_by}
+use Rattle.group.specs.Items.{item_prefix, item_label, too_many, first_refusal, built_by, hands_out}
+use Rattle.group.proofs.Going.{refuses}
 
 -- ---- labels
 
@@ -64,24 +67,20 @@ room n e = go (ltb max_entries n) refl e
     go true p q = omega arith
     go false p q = ltb-false max_entries n p
 
--- where the first of two refusals is none, neither is the second
-pub second_none : (a b : ℕ) → first_refusal a b ≡ accepted → b ≡ accepted
+-- the first of two refusals, where it is one
+pub refused_first : (r : Refusal) (n : ℕ) → number r ≡ first_refusal (number r) n
 unfolding first_refusal
-second_none a b e = go (eqb a accepted) refl e
-  where
-    go : (t : Bool) → eqb a accepted ≡ t → cond t b a ≡ accepted → b ≡ accepted
-    go true p q = q
-    go false p q = absurd (eqb-false a accepted p q)
+refused_first r n = rw (ne_eqb (number r) accepted (refuses r))
 
 -- a refused builder
-pub refused_as : (n m : ℕ) (calls : List Call) → n ≡ m → (n ≡ accepted → ⊥) → refused_with n ≡ built_by m calls
+pub refused_as : (r : Refusal) (m : ℕ) (calls : List Call) → number r ≡ m → hands_out (Err r) ≡ built_by m calls
 unfolding built_by after
-refused_as n m calls e h = rw (← e, ne_eqb n accepted h)
+refused_as r m calls e = rw (← e, ne_eqb (number r) accepted (refuses r))
 
--- an accepted builder
-pub built-as : (n m : ℕ) (calls : List Call) (t : Timeline) → n ≡ m → n ≡ accepted → t ≡ after empty calls → built_from t ≡ built_by m calls
+-- an accepted one
+pub built_as : (t : Timeline) (m : ℕ) (calls : List Call) → accepted ≡ m → t ≡ after empty calls → hands_out (Ok t) ≡ built_by m calls
 unfolding built_by
-built-as n m calls t e z a = rw (← e, z, a)
+built_as t m calls e a = rw (← e, a)
 
 -- ---- an item
 

@@ -1,5 +1,6 @@
 -- What is claimed of builders and groups: the claim of crate history covers all that they hand out and all that the controls leave, and an accepted builder's calls are accepted, each one.
 use Rattle.std.specs.Prelude.{ℕ, ◌≤◌, ◌≡◌, List, length, Float}
+use Rattle.refusal.specs.Refusal.{number_in}
 use Rattle.tween.specs.declared.stagger_pattern.StaggerPattern.{StaggerPattern}
 use Rattle.tween.specs.StaggerPattern.{delay_of}
 use Rattle.steps.specs.Times.{max_entries}
@@ -44,4 +45,4 @@ pub record Claim : Type 0 where
   -- up to 64 items, no call of a builder is refused, wherever the items start
   pub accepts : (at : ℕ → At) (ds : List Float) → length ds ≤ max_entries → AllBuild empty (item_calls at 0 ds)
   -- a pattern that refuses one index refuses all
-  pub patterns : (p : StaggerPattern) (i : ℕ) → (delay_of p i).refusal ≡ (delay_of p 0).refusal
+  pub patterns : (p : StaggerPattern) (i : ℕ) → number_in (delay_of p i) ≡ number_in (delay_of p 0)

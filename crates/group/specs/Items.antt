@@ -1,6 +1,7 @@
 -- The items of a builder: their labels, the calls that add them, and what the builder hands out. Definitions only.
-use Rattle.std.specs.Prelude.{ℕ, ◌+◌, cond, List, [], ◌∷◌, ◌++◌, eqb, ltb, Float}
-use Rattle.refusal.specs.Refusal.{accepted, timeline_full}
+use Rattle.std.specs.Prelude.{ℕ, ◌+◌, ◌<◌, ◌≡◌, cond, List, [], ◌∷◌, ◌++◌, eqb, ltb, Float, Option, Some, None, Result, Ok}
+use Rattle.refusal.specs.declared.Refusal.{Refusal}
+use Rattle.refusal.specs.Refusal.{accepted, timeline_full, number_if, number_in, held_or}
 use Rattle.digits.specs.Digits.{decimal}
 use Rattle.steps.specs.Times.{max_entries}
 use Rattle.timeline.specs.declared.timeline.At.{At}
@@ -30,13 +31,25 @@ too_many n = cond (ltb max_entries n) timeline_full accepted
 unfoldable pub first_refusal : ℕ → ℕ → ℕ
 first_refusal first second = cond (eqb first accepted) second first
 
--- the answer of an accepted builder, and of a refused one: "the empty panel"
-abbrev pub built_from : Timeline → Built
-built_from t = record { refusal = accepted; timeline = t }
-
-abbrev pub refused_with : ℕ → Built
-refused_with n = record { refusal = n; timeline = empty }
+-- what a builder hands out: its refusal, and the timeline
+pub record HandedOut : Type 0 where
+  pub refusal : ℕ
+  pub timeline : Timeline
 
 -- what a builder hands out: what its calls make of the empty timeline; where it is refused, it makes none
-unfoldable pub built_by : ℕ → List Call → Built
+unfoldable pub built_by : ℕ → List Call → HandedOut
 built_by refusal calls = record { refusal = refusal; timeline = after empty (cond (eqb refusal accepted) calls []) }
+
+-- ---- answers
+
+-- the answer of a builder, with its number
+abbrev pub handed_out : Built → HandedOut
+handed_out b = record { refusal = number_if b.refusal; timeline = b.timeline }
+
+-- the answer r, handed out: "the empty panel" where it is refused
+abbrev pub hands_out : Result Timeline Refusal → HandedOut
+hands_out r = record { refusal = number_in r; timeline = held_or empty r }
+
+-- asked for the place of any of 64 items, a closure with these results gives what `at` says
+abbrev pub Gives : (ℕ → Result At Refusal → Type 0) → (ℕ → At) → Type 0
+Gives post at = (i : ℕ) (r : Result At Refusal) → i < max_entries → post i r → r ≡ Ok (at i)

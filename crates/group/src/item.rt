@@ -1,18 +1,36 @@
 // What the builders share: their answer, and their items, whose labels are `item_` and the decimal index.
-ghost use Rattle.std.specs.Prelude.{◌≡◌, ◌≤◌, length, take};
-ghost use Rattle.timeline.specs.Calls.{Add, step};
-ghost use Rattle.group.specs.Items.{item_label, too_many};
-ghost use Rattle.group.specs.Sequence.{Then, sequence_step};
+ghost use Rattle.std.specs.Prelude.{◌≡◌, ◌≤◌, ℕ, length, take};
+ghost use Rattle.refusal.specs.Refusal.{number_in};
+ghost use Rattle.timeline.specs.declared.timeline.At.{At};
+ghost use Rattle.group.specs.Items.{item_label, item_calls, too_many, built_by, handed_out, hands_out, Gives};
 
-use crate::sequence::Sequence;
+use refusal::Refusal;
 use steps::MAX_ENTRIES;
 use timeline::timeline::{At, Timeline};
 
-// The answer of a builder; where it is refused, the timeline is empty.
+// The answer of a builder; where it is refused, the timeline is empty. No Result: a refused builder hands out the empty panel (paper 01).
 #[derive(Clone, Copy)]
 pub struct Built {
-    pub refusal: u8,
+    pub refusal: Option<Refusal>,
     pub timeline: Timeline,
+}
+
+// What was built, or the empty timeline where that was refused.
+impl From<Result<Timeline, Refusal>> for Built {
+    ghost from_gives = { λ answer built. handed_out built ≡ hands_out answer };
+
+    fn from(answer: Result<Timeline, Refusal>) -> Built {
+        match answer {
+            Ok(timeline) => Built {
+                refusal: None,
+                timeline,
+            },
+            Err(refusal) => Built {
+                refusal: Some(refusal),
+                timeline: Timeline::new(),
+            },
+        }
+    }
 }
 
 // How many bytes `item_` has, and how many a label with the longest index.
@@ -20,52 +38,60 @@ const PREFIX: usize = 5;
 
 const LONGEST: usize = 25;
 
-// The label of an item: the first len bytes.
+// The label of an item: the first len bytes. Paper 01 has fixed arrays in place of heap types.
 #[derive(Clone, Copy)]
 pub struct ItemLabel {
     pub bytes: [u8; LONGEST],
     pub len: usize,
+    pub ghost fits: { len ≤ 25 },
 }
 
-pub(crate) fn label_of(index: usize) -> ItemLabel
-    ensures { (take result.len result.bytes ≡ item_label index) × (result.len ≤ length result.bytes) }
-{
-    let mut bytes = *b"item_00000000000000000000";
-    let count = digits::put_decimal(index, &mut bytes, PREFIX);
-    ItemLabel {
-        bytes,
-        len: PREFIX + count,
+impl ItemLabel {
+    // The label of the item with this number.
+    pub(crate) fn new(index: usize) -> ItemLabel
+        ensures { take result.len result.bytes ≡ item_label index }
+    {
+        let mut bytes = *b"item_00000000000000000000";
+        let count = digits::put_decimal(index, &mut bytes, PREFIX);
+        ItemLabel {
+            bytes,
+            len: PREFIX + count,
+        }
+    }
+
+    // The bytes that count.
+    pub fn text(&self) -> &[u8]
+        ensures { result.now ≡ take self.now.len self.now.bytes }
+    {
+        &self.bytes[..self.len]
     }
 }
 
-// A timeline with one item more.
-pub(crate) fn add(t: Timeline, index: usize, at: At, duration: f32) -> Timeline
-    ensures { result ≡ (step t (Add (item_label index) at duration)).timeline }
+// A timeline with an item for each duration, where `at` says for its number.
+#[tactic(auto, using(crate::proofs::Items::refused_as))]
+pub(crate) fn add_each<F: Fn(u32) -> Result<At, Refusal>>(
+    durations: &[f32],
+    at: F,
+) -> Result<Timeline, Refusal>
+    requires { F.IsAlwaysCallable at }
+    ensures { (places : ℕ → At) → Gives (F.post at) places → hands_out result ≡ built_by (too_many (length durations.now)) (item_calls places 0 durations.now) }
 {
-    let l = label_of(index);
-    let n = l.len;
-    let bytes = l.bytes;
-    let added = t.add(&bytes[..n], at, duration);
-    added.timeline
+    too_many(durations.len())?;
+    let mut timeline = Timeline::new();
+    for (i, duration) in durations.iter().enumerate() {
+        let label = ItemLabel::new(i);
+        timeline = timeline.add(label.text(), at(i as u32)?, *duration)?;
+    }
+    Ok(timeline)
 }
 
-// A sequence with one item more.
-pub(crate) fn then(s: Sequence, index: usize, duration: f32) -> Sequence
-    ensures { result ≡ (sequence_step s (Then (item_label index) duration)).sequence }
-{
-    let l = label_of(index);
-    let n = l.len;
-    let bytes = l.bytes;
-    let next = s.then(&bytes[..n], duration);
-    next.sequence
-}
-
-// 1 where a timeline has no room for n items.
-pub(crate) fn too_many(n: usize) -> u8
-    ensures { result ≡ too_many n }
+// Refuses by 1 where a timeline has no room for n items.
+#[tactic(auto, using(std::proofs::lemmas::Grind::common_steps), unfolding(crate::specs::Items::too_many))]
+pub(crate) fn too_many(n: usize) -> Result<(), Refusal>
+    ensures { number_in result ≡ too_many n }
 {
     if n > MAX_ENTRIES {
-        return refusal::TIMELINE_FULL;
+        return Err(Refusal::TimelineFull);
     }
-    refusal::ACCEPTED
+    Ok(())
 }

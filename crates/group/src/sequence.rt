@@ -1,8 +1,9 @@
 // Timeline entries that play one after another (sequence.rs).
 ghost use Rattle.std.specs.Prelude.{◌≡◌};
-ghost use Rattle.group.specs.Sequence.{new_sequence, cursor_after, then_by, Then, ThenFor, Gap, sequence_step};
+ghost use Rattle.group.specs.Sequence.{new_sequence, cursor_after, Then, ThenFor, Gap, sequence_step, Goes};
 
-use timeline::timeline::{Added, At, Timeline};
+use refusal::Refusal;
+use timeline::timeline::{At, Timeline};
 
 // A timeline, and the second at which its next entry starts.
 #[derive(Clone, Copy)]
@@ -11,50 +12,47 @@ pub struct Sequence {
     pub cursor: f32,
 }
 
-// The answer of the calls that add an entry.
-#[derive(Clone, Copy)]
-pub struct Sequenced {
-    pub refusal: u8,
-    pub sequence: Sequence,
-}
-
 impl Sequence {
     // An empty sequence.
+    #[tactic(auto, unfolding(crate::specs::Sequence::new_sequence))]
     pub fn new() -> Sequence
         ensures { result ≡ new_sequence }
     {
-        let inner = Timeline::new();
-        Sequence { inner, cursor: 0.0 }
+        Sequence {
+            inner: Timeline::new(),
+            cursor: 0.0,
+        }
     }
 
-    // One entry more, at the cursor; the duration is the leaf's. Refused as `add` is.
-    pub fn then(self, label: &[u8], duration: f32) -> Sequenced
-        ensures { result ≡ sequence_step self (Then label.now duration) }
+    // One entry more, at the cursor; the duration is the leaf's. Refused as `add` is, which leaves the caller's sequence, cursor included.
+    #[tactic(auto, using(crate::proofs::Going::goes_on, crate::proofs::Going::stays), unfolding(crate::specs::Sequence::sequence_step))]
+    pub fn then(self, label: &[u8], duration: f32) -> Result<Sequence, Refusal>
+        ensures { Goes (sequence_step self (Then label.now duration)) self result }
     {
-        let inner = self.inner;
-        let cursor = self.cursor;
-        let added = inner.add(label, At::Absolute(cursor), duration);
-        self.then_by(added, duration)
+        let inner = self.inner.add(label, At::Absolute(self.cursor), duration)?;
+        let cursor = self.cursor_after(duration);
+        Ok(Sequence { inner, cursor })
     }
 
     // The same with a duration that need not be the leaf's.
-    pub fn then_for(self, label: &[u8], duration: f32) -> Sequenced
-        ensures { result ≡ sequence_step self (ThenFor label.now duration) }
+    #[tactic(auto, using(crate::proofs::Going::goes_on, crate::proofs::Going::stays), unfolding(crate::specs::Sequence::sequence_step))]
+    pub fn then_for(self, label: &[u8], duration: f32) -> Result<Sequence, Refusal>
+        ensures { Goes (sequence_step self (ThenFor label.now duration)) self result }
     {
-        let inner = self.inner;
-        let cursor = self.cursor;
+        let at = At::Absolute(self.cursor);
         let slot = float32::max(duration, 0.0);
-        let added = inner.add_boxed_with_duration(label, At::Absolute(cursor), slot);
-        self.then_by(added, duration)
+        let inner = self.inner.add_boxed_with_duration(label, at, slot)?;
+        let cursor = self.cursor_after(duration);
+        Ok(Sequence { inner, cursor })
     }
 
     // A silent gap before the next entry.
+    #[tactic(auto, unfolding(crate::specs::Sequence::sequence_step))]
     pub fn gap(self, seconds: f32) -> Sequence
         ensures { result ≡ (sequence_step self (Gap seconds)).sequence }
     {
-        let inner = self.inner;
         let cursor = self.cursor_after(seconds);
-        Sequence { inner, cursor }
+        Sequence { cursor, ..self }
     }
 
     // The timeline that was built.
@@ -71,30 +69,11 @@ impl Sequence {
         self.cursor
     }
 
-    // The next sequence, where the entry was added; a refused one leaves the sequence, cursor included.
-    fn then_by(self, added: Added, duration: f32) -> Sequenced
-        ensures { result ≡ then_by self added duration }
-    {
-        let cursor = self.cursor_after(duration);
-        let inner = added.timeline;
-        let next = Sequence { inner, cursor };
-        if added.refusal != refusal::ACCEPTED {
-            return Sequenced {
-                refusal: added.refusal,
-                sequence: self,
-            };
-        }
-        Sequenced {
-            refusal: refusal::ACCEPTED,
-            sequence: next,
-        }
-    }
-
     // The cursor after so many seconds.
+    #[tactic(auto, unfolding(crate::specs::Sequence::cursor_after))]
     fn cursor_after(self, seconds: f32) -> f32
         ensures { result ≡ cursor_after self.cursor seconds }
     {
-        let cursor = self.cursor;
-        cursor + float32::max(seconds, 0.0)
+        self.cursor + float32::max(seconds, 0.0)
     }
 }

@@ -3,9 +3,8 @@ use mathlib.Core.Path.{◌≡◌, refl, sym, ap, ap₂, ◌∙◌}
 use mathlib.Core.Logic.{◌⊎◌, inl, inr}
 use mathlib.Core.Bool.{Bool, true, false, not, ◌&&◌, ◌||◌, beq, cond, false≢true, or-true}
 use Prim.Native.Nat.{ℕ, ◌+◌, ◌-◌, ◌*◌, ◌%◌, ◌<◌}
-use native.Mathlib.Nat.{mul-pos, mul_comm, mul_assoc, mul_right_comm, add-mul, mul-sub, add-zero, zero-mul, zero-mod, mod-zero, mul-div_cancel, mul-mod_left, eq-zero-or-pos, mul-lt-mul_of_pos_right, lt_of_mul-lt-mul_right}
+use native.Mathlib.Nat.{mul-pos, mul_comm, mul_assoc, mul_right_comm, add-mul, mul-sub, zero-mod, mul-lt-mul_of_pos_right, lt_of_mul-lt-mul_right}
 use borrow.Author.Tests.{eqb-true, eq-eqb, lt-ltb, ltb-true}
-use lib.Arith.{mod-mul}
 use lib.Dec.{eqb, ltb}
 use lib.IntN.{ℤ}
 use lib.Ieee.{Float, nan, inf, fin, Format, up, down, level, round, sum, add, sub, rem, neg, lt, le, eq}

@@ -6,12 +6,11 @@ use Prim.Native.Nat.{ℕ, zero, suc}
 use native.Mathlib.Omega.{arith}
 use lib.ListN.{get_or, length-set, length-replicate}
 use lib.Ieee.{Float, binary32, add, of_bits}
+use Rattle.std.specs.Prelude.{Option, Some, None}
 use Rattle.float32.specs.Helpers.{nonneg_f}
 use Rattle.float32.proofs.Nonneg.{zero_nonneg, max-zero_nonneg}
 use Rattle.steps.specs.declared.Entry.{Entry}
 use Rattle.steps.specs.Times.{max_entries}
-use Rattle.label.specs.declared.Found.{Found}
-use Rattle.label.specs.declared.Found.TheVariants.{At as FoundAt, Nothing}
 use Rattle.label.specs.Label.{first_with, first_like, label_of}
 use Rattle.track.specs.declared.track.Track.{Track}
 use Rattle.track.specs.Tracks.{live, track_base, blank, empty_track}
@@ -41,9 +40,9 @@ sound_at (e ∷ es) (suc i) a = sound_at es i a.1
 
 -- ---- where an entry starts
 module _ (t : Timeline) (inv : Invariant t) where
-  found-sound : (f : Found) → nonneg_f (start_found t f) ≡ true
-  found-sound (FoundAt i) = sound_at (live t.track) i inv.spans
-  found-sound Nothing = base_nonneg (live t.track)
+  found-sound : (f : Option ℕ) → nonneg_f (start_found t f) ≡ true
+  found-sound (Some i) = sound_at (live t.track) i inv.spans
+  found-sound None = base_nonneg (live t.track)
 
   named-sound : (name : List ℕ) → nonneg_f (named_start t name) ≡ true
   unfolding named_start

@@ -6,6 +6,7 @@ use Prim.Native.Nat.{ℕ, ◌+◌}
 use lib.Dec.{ltb}
 use lib.ListN.{length, get_or, length-map, get_or-map}
 use lib.Ieee.{Float, binary32, add}
+use Rattle.std.specs.Prelude.{Option, Some, None}
 use Rattle.float32.specs.Helpers.{zero_f, max_f}
 use Rattle.tween.specs.declared.loop_mode.Loop.{Loop}
 use Rattle.steps.specs.declared.Entry.{Entry}
@@ -13,8 +14,6 @@ use Rattle.steps.specs.Times.{end_at, base_of, run_of, local_time}
 use Rattle.steps.specs.Rows.{synced}
 use Rattle.completions.proofs.Ends.{base_of_ends}
 use Rattle.label.specs.declared.Label.{Label}
-use Rattle.label.specs.declared.Found.{Found}
-use Rattle.label.specs.declared.Found.TheVariants.{At as FoundAt, Nothing}
 use Rattle.label.specs.Label.{text, same_text, first_from, first_with, first_like, no_label}
 use Rattle.track.specs.Tracks.{live, track_base, track_run, blank}
 use Rattle.timeline.specs.declared.timeline.At.{At}
@@ -54,14 +53,14 @@ module _ (es fs : List Entry) (same : map span_of es ≡ map span_of fs) where
       sym (get_or-map start es i blank) ∙ ap (λ (xs : List Float). get_or xs i zero_f) (map_same start (λ e. refl)) ∙ get_or-map start fs i blank
 
 -- ---- lists of labels with the same texts
-first_in : ℕ → List ℕ → List (List ℕ) → Found
-first_in i name [] = Nothing
-first_in i name (x ∷ xs) = cond (same_text x name) (FoundAt i) (first_in (i + 1) name xs)
+first_in : ℕ → List ℕ → List (List ℕ) → Option ℕ
+first_in i name [] = None
+first_in i name (x ∷ xs) = cond (same_text x name) (Some i) (first_in (i + 1) name xs)
 
 first_in_lem : (i : ℕ) (name : List ℕ) (ls : List Label) → first_from i name ls ≡ first_in i name (map text ls)
 unfolding first_from first_in
 first_in_lem i name [] = refl
-first_in_lem i name (l ∷ ls) = ap (cond (same_text (text l) name) (FoundAt i)) (first_in_lem (i + 1) name ls)
+first_in_lem i name (l ∷ ls) = ap (cond (same_text (text l) name) (Some i)) (first_in_lem (i + 1) name ls)
 
 module _ (ls ms : List Label) (same : map text ls ≡ map text ms) where
   pub first_same : (name : List ℕ) → first_with name ls ≡ first_with name ms
@@ -75,7 +74,7 @@ module _ (ls ms : List Label) (same : map text ls ≡ map text ms) where
 
   pub like-same : (k : ℕ) → first_like k ls ≡ first_like k ms
   unfolding first_like
-  like-same k = ap₂ (λ (n : ℕ) (f : Found). cond (ltb k n) f Nothing) count_same (first_same (text (get_or ls k no_label)) ∙ ap (λ (x : List ℕ). first_with x ms) (text_same k))
+  like-same k = ap₂ (λ (n : ℕ) (f : Option ℕ). cond (ltb k n) f None) count_same (first_same (text (get_or ls k no_label)) ∙ ap (λ (x : List ℕ). first_with x ms) (text_same k))
 
 -- ---- timelines of the same entries and loop mode
 module _ {t u : Timeline} (s : SameEntries t u) where
@@ -92,9 +91,9 @@ module _ {t u : Timeline} (s : SameEntries t u) where
   lengths = length-same (live t.track) (live u.track) s.spans
 
   -- the start of what is found
-  found-starts : (f : Found) → start_found t f ≡ start_found u f
-  found-starts (FoundAt i) = start-same (live t.track) (live u.track) s.spans i
-  found-starts Nothing = bases
+  found-starts : (f : Option ℕ) → start_found t f ≡ start_found u f
+  found-starts (Some i) = start-same (live t.track) (live u.track) s.spans i
+  found-starts None = bases
 
   pub named-starts : (name : List ℕ) → named_start t name ≡ named_start u name
   unfolding named_start

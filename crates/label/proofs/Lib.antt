@@ -1,4 +1,3 @@
 pub mod Text
 pub mod SameText
-pub mod Live
 pub mod First

@@ -26,27 +26,3 @@ pub fn set_time_scale(clock: &mut Clock, scale: f32)
 {
     *clock = clock.scaled(scale);
 }
-
-// `pause` for a caller that has the clock by value: lends it and hands it back. So are the next two.
-pub fn lend_pause(mut clock: Clock) -> Clock
-    ensures { result ≡ paused clock }
-{
-    pause(&mut clock);
-    clock
-}
-
-// `resume`
-pub fn lend_resume(mut clock: Clock) -> Clock
-    ensures { result ≡ resumed clock }
-{
-    resume(&mut clock);
-    clock
-}
-
-// `set_time_scale`
-pub fn lend_set_time_scale(mut clock: Clock, scale: f32) -> Clock
-    ensures { result ≡ scaled clock scale }
-{
-    set_time_scale(&mut clock, scale);
-    clock
-}

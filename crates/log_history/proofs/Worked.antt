@@ -2,6 +2,7 @@
 use mathlib.Core.Path.{◌≡◌, refl}
 use lib.Ieee.{add, sub, mul, div, rem, neg, of_int, of_bits, to_bits, to_unsigned, is_nan, lt, le, eq}
 use Rattle.float32.specs.Helpers.{max_f, min_f, clamp_f}
+use Rattle.tween.specs.LoopMode.{loop_of}
 use Rattle.digits.specs.Digits.{code_of, digits, decimal_places_from, decimal_places, decimal}
 use Rattle.steps.specs.Times.{base_of, times_run, run_of, times_local, ping_pong, local_time}
 use Rattle.steps.specs.Rows.{untouched, reset_step, synced, ticked, reset_first}
@@ -16,7 +17,7 @@ use Rattle.timeline.specs.Calls.{added_at, step, after}
 use Rattle.words.specs.Words.{word}
 use Rattle.words.specs.Pairs.{pairs_in_turn}
 use Rattle.sheet_format.specs.Check.{header_number, record_number, records_number, check_number}
-use Rattle.sheet_format.specs.Descriptions.{empty_description, loop_of, placement_of, items_from, description_in}
+use Rattle.sheet_format.specs.Descriptions.{empty_description, placement_of, items_from, description_in}
 use Rattle.sheet.specs.Build.{calls_from, calls_of, reading_of}
 use Rattle.script.specs.Scripts.{outcome_in}
 use Rattle.call_log.specs.Lines.{shown, shown_all}

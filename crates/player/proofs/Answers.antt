@@ -18,8 +18,7 @@ use Rattle.steps.specs.Times.{local_time}
 use Rattle.completions.specs.Answers.{Listed}
 use Rattle.completions.specs.Columns.{most_entries, ends_in}
 use Rattle.completions.specs.Completions.{completions_in, completions_between, empty_at_nan}
-use Rattle.completions.specs.declared.Counted.{Counted}
-use Rattle.completions.specs.declared.Counted.TheVariants.{Within, Over}
+use Rattle.std.specs.Prelude.{Option, Some, None}
 use Rattle.clock.specs.declared.Clock.{Clock}
 use Rattle.clock.specs.declared.Reach.{Reach}
 use Rattle.clock.specs.Clocks.{within, reach_of, advanced_clock}
@@ -110,20 +109,20 @@ module _ (h : Playhead) (ss ds : List Float) (ms : List Bool) where
 
     -- ---- the other modes
 
-    module _ (eb : base ≡ track_base t) {l₀ l : List ℕ} {r : Counted}
+    module _ (eb : base ≡ track_base t) {l₀ l : List ℕ} {r : Option ℕ}
         (w : Listed (empty_at_nan h.clock.elapsed next (completions_in h.looping (ends_in (min n most_entries) ss ds) base h.clock.elapsed next)) l₀ l r) where
       -- what the walk lists are the track's completions
-      listed-own : {r' : Counted} → r ≡ r' → Listed (completions_between t.looping (live t) t.clock.elapsed next) l₀ l r'
+      listed-own : {r' : Option ℕ} → r ≡ r' → Listed (completions_between t.looping (live t) t.clock.elapsed next) l₀ l r'
       listed-own er =
           let same = completed h ss ds ms n all h.looping h.clock.elapsed next eb in
           rw (mode-own, clock-own, ← er, ← same) w
 
-      pub sync-over : {k₀ : List ℕ} {a₀ p₀ : List Float} {x : Answer} {c : Clock} → r ≡ Over → x ≡ refused_by 5 → c ≡ h.clock → UpdatesBy (fitted (length l₀) t (advanced_to t (synced_to t base next))) x (track_of (with_clock_at h c) ss ds ms) l₀ l k₀ k₀ a₀ a₀ p₀ p₀
+      pub sync-over : {k₀ : List ℕ} {a₀ p₀ : List Float} {x : Answer} {c : Clock} → r ≡ None → x ≡ refused_by 5 → c ≡ h.clock → UpdatesBy (fitted (length l₀) t (advanced_to t (synced_to t base next))) x (track_of (with_clock_at h c) ss ds ms) l₀ l k₀ k₀ a₀ a₀ p₀ p₀
       sync-over er ex ec =
           let y = listed-over _ l₀ l (listed-own er) in
           refused_over (synced_to t base next) ex ec y.0 y.1
 
-      pub sync-told : {to : Reach} {time : Float} {m : ℕ} {ms' : List Bool} {k₀ k : List ℕ} {a₀ a p₀ p : List Float} {x : Answer} {c : Clock} → r ≡ Within m → to ≡ reach_of h.looping base next → time ≡ local_time h.looping base to.elapsed
+      pub sync-told : {to : Reach} {time : Float} {m : ℕ} {ms' : List Bool} {k₀ k : List ℕ} {a₀ a p₀ p : List Float} {x : Answer} {c : Clock} → r ≡ Some m → to ≡ reach_of h.looping base next → time ≡ local_time h.looping base to.elapsed
           → x ≡ reached_from h.clock to.ended m → c ≡ advanced_clock h.clock to.elapsed to.ended
           → (ms' ≡ over (done_of (map (ruled (Sync time)) (first_of n ss ds ms))) ms) × Sent (rows_of (map (ruled (Sync time)) (first_of n ss ds ms))) k₀ k a₀ a p₀ p
           → UpdatesBy (fitted (length l₀) t (advanced_to t (synced_to t base next))) x (track_of (with_clock_at h c) ss ds ms') l₀ l k₀ k a₀ a p₀ p

@@ -1,11 +1,11 @@
 -- The preview: it goes over a copy of the marks, and sends the rows of an update.
-use Prim.Native.Nat.{ℕ, zero, suc, min}
+use Prim.Native.Nat.{ℕ, zero, suc, min, ◌≤◌}
 use mathlib.Core.Path.{◌≡◌, refl, sym, ap, subst, ◌∙◌}
 use mathlib.Core.Bool.{Bool, false}
-use mathlib.Core.List.{List, [], ◌∷◌}
+use mathlib.Core.List.{List, [], ◌∷◌, ◌++◌}
 use native.Mathlib.Omega.{arith}
 use lib.ListN.{length, take}
-use lib.Seq.{take-length}
+use lib.Seq.{take-length, length-take-le, take_at}
 use lib.Ieee.{Float}
 use Rattle.steps.specs.declared.Entry.{Entry}
 use Rattle.steps.specs.declared.Row.{Row}
@@ -32,6 +32,10 @@ first_part (suc n) (s ∷ ss) (d ∷ ds) (m ∷ ms) = ap (λ (es : List Entry). 
 -- the entries are those of the marks
 pub first_same : (n : ℕ) (ss ds : List Float) (ms ms' : List Bool) → take n ms' ≡ take n ms → first_of n ss ds ms' ≡ first_of n ss ds ms
 first_same n ss ds ms ms' e = sym (first_part n ss ds ms') ∙ ap (first_of n ss ds) e ∙ first_part n ss ds ms
+
+-- a copy of the first n marks over the front of another list
+pub front_copied : (n : ℕ) (ms xs rest : List Bool) → n ≤ length ms → xs ≡ take n ms → take n (xs ++ rest) ≡ take n ms
+front_copied n ms xs rest h e = ap (λ (ys : List Bool). take n (ys ++ rest)) e ∙ take_at (take n ms) rest n (length-take-le n ms h)
 
 module _ (h : Playhead) (ss ds : List Float) (ms : List Bool) (n : ℕ) (all : n ≡ length (live (track_of h ss ds ms))) (ms' : List Bool) (e : take n ms' ≡ take n ms) where
   abbrev t : Track

@@ -1,4 +1,5 @@
-// The loops over the first n entries of lent columns: what every entry is sent, and the mark that it leaves.
+// The loops over the first n entries of lent columns: what every entry is sent, and the mark that it leaves. By index: columns
+// and row slices are gone over in step.
 ghost use Rattle.std.specs.Prelude.{◌≡◌, false, not, ◌&&◌, [], map, ◌+◌, ◌<◌, ◌≤◌, ltb, length, get_or, set};
 ghost use Rattle.std.proofs.lemmas.List.Edits.{sets};
 ghost use Rattle.steps.specs.Rows.{ruled};
@@ -8,38 +9,39 @@ ghost use Rattle.completions.specs.Columns.{most_entries};
 ghost use Rattle.track.specs.Columns.{first_of};
 ghost use Rattle.track.specs.Updates.{ticks, newly_done};
 ghost use Rattle.track.specs.Answers.{seen};
-ghost use Rattle.player.specs.Loops.{lent_first, lent_ticks, lent_done, SentTo};
+ghost use Rattle.player.specs.Loops.{lent_first, lent_ticks, lent_done, entry_at, Reads, Writes, SentTo};
 
+use completions::Spans;
 use steps::{Entry, Rule, Stepped};
+use track::rows::Rows;
+
+// Entry i of the columns.
+fn entry_at(i: usize, spans: Spans<'_>, marks: &[bool]) -> Entry
+    requires { (i < length spans.starts.now) × (i < length spans.durations.now) × (i < length marks.now) }
+    ensures { result ≡ entry_at i spans.entry marks.now }
+{
+    Entry {
+        start: spans.starts[i],
+        duration: spans.durations[i],
+        done: marks[i],
+    }
+}
 
 // To each of n entries what the rule sends, and its mark.
-pub(crate) fn apply(
-    n: usize,
-    rule: Rule,
-    starts: &[f32],
-    durations: &[f32],
-    marks: &mut [bool],
-    kinds: &mut [u8],
-    amounts: &mut [f32],
-    places: &mut [f32],
-)
-    requires { (n ≤ length starts.now) × (n ≤ length durations.now) × (n ≤ length marks.old) × (n ≤ length kinds.old) × (n ≤ length amounts.old) × (n ≤ length places.old) }
-    ensures { SentTo (map (ruled rule) (lent_first n starts durations (seen marks))) marks kinds amounts places }
+pub(crate) fn apply(n: usize, rule: Rule, spans: Spans<'_>, marks: &mut [bool], rows: &mut Rows<'_>)
+    requires { Reads n spans marks.old × Writes n rows.old }
+    ensures { SentTo (map (ruled rule) (lent_first n spans.entry (seen marks))) marks rows }
 {
-    let mut i = 0usize;
-    while i < n {
-        let e = Entry {
-            start: starts[i],
-            duration: durations[i],
-            done: marks[i],
-        };
-        let s = steps::step_entry(rule, e);
-        let row = s.row;
-        kinds[i] = row.kind;
-        amounts[i] = row.amount;
-        places[i] = row.place;
+    // Taken out of the struct, which would be read anew in each turn: some 19 instructions an entry.
+    let kinds = &mut *rows.kinds;
+    let amounts = &mut *rows.amounts;
+    let places = &mut *rows.places;
+    for i in 0..n {
+        let s = steps::step_entry(rule, entry_at(i, spans, marks));
+        kinds[i] = s.row.kind;
+        amounts[i] = s.row.amount;
+        places[i] = s.row.place;
         marks[i] = s.done;
-        i += 1;
     }
 }
 
@@ -47,7 +49,7 @@ pub(crate) fn apply(
 fn newly_done(e: Entry, s: Stepped) -> bool
     ensures { result ≡ (not e.done && s.done) }
 {
-    steps::both(!e.done, s.done)
+    !e.done && s.done
 }
 
 // How many of n entries a tick would list.
@@ -55,27 +57,19 @@ fn count_done(
     n: usize,
     prev: f32,
     next: f32,
-    starts: &[f32],
-    durations: &[f32],
+    spans: Spans<'_>,
     marks: &[bool],
     replies: &[u8],
 ) -> usize
-    requires { (n ≤ length starts.now) × (n ≤ length durations.now) × (n ≤ length marks.now) × (n ≤ length replies.now) }
-    ensures { result ≡ length (lent_done n prev next starts durations marks replies) }
+    requires { Reads n spans marks.now × (n ≤ length replies.now) }
+    ensures { result ≡ length (lent_done n prev next spans.entry marks replies) }
 {
-    let mut k = 0usize;
-    let mut i = 0usize;
-    while i < n {
-        let e = Entry {
-            start: starts[i],
-            duration: durations[i],
-            done: marks[i],
-        };
-        let s = steps::tick_entry(prev, next, e, replies[i]);
-        if newly_done(e, s) {
+    let mut k = 0;
+    for i in 0..n {
+        let e = entry_at(i, spans, marks);
+        if newly_done(e, steps::tick_entry(prev, next, e, replies[i])) {
             k += 1;
         }
-        i += 1;
     }
     k
 }
@@ -85,19 +79,15 @@ pub(crate) fn outnumber(
     n: usize,
     prev: f32,
     next: f32,
-    starts: &[f32],
-    durations: &[f32],
+    spans: Spans<'_>,
     marks: &[bool],
     replies: &[u8],
     room: usize,
 ) -> bool
-    requires { (n ≤ length starts.now) × (n ≤ length durations.now) × (n ≤ length marks.now) × (n ≤ length replies.now) }
-    ensures { result ≡ ltb room (length (lent_done n prev next starts durations marks replies)) }
+    requires { Reads n spans marks.now × (n ≤ length replies.now) }
+    ensures { result ≡ ltb room (length (lent_done n prev next spans.entry marks replies)) }
 {
-    if n <= room {
-        return false;
-    }
-    room < count_done(n, prev, next, starts, durations, marks, replies)
+    room < n && room < count_done(n, prev, next, spans, marks, replies)
 }
 
 // Marks the entry i, and lists it at `at`, if it is newly done; says where the next one goes. Most marks stay.
@@ -121,35 +111,29 @@ pub(crate) fn tick(
     n: usize,
     prev: f32,
     next: f32,
-    starts: &[f32],
-    durations: &[f32],
+    spans: Spans<'_>,
     marks: &mut [bool],
     replies: &[u8],
     list: &mut [u8],
-    kinds: &mut [u8],
-    amounts: &mut [f32],
-    places: &mut [f32],
+    rows: &mut Rows<'_>,
 ) -> usize
-    requires n_in_bounds { (n ≤ length starts.now) × (n ≤ length durations.now) × (n ≤ length marks.old) × (n ≤ length kinds.old) × (n ≤ length amounts.old) × (n ≤ length places.old) }
-    requires n_le_most_entries { (n ≤ most_entries) × (n ≤ length replies.now) × (length (newly_done 0 (first_of n starts.now durations.now marks.old) (ticks prev next (first_of n starts.now durations.now marks.old) replies.now)) ≤ length list.old) }
-    ensures value { (result ≡ length (lent_done n prev next starts durations (seen marks) replies)) × (list.new ≡ over (lent_done n prev next starts durations (seen marks) replies) list.old) }
-    ensures sent_to { SentTo (lent_ticks n prev next starts durations (seen marks) replies) marks kinds amounts places }
+    requires in_bounds { Reads n spans marks.old × Writes n rows.old × (n ≤ most_entries) × (n ≤ length replies.now) }
+    requires room { length (newly_done 0 (first_of n spans.starts.now spans.durations.now marks.old) (ticks prev next (first_of n spans.starts.now spans.durations.now marks.old) replies.now)) ≤ length list.old }
+    ensures value { (result ≡ length (lent_done n prev next spans.entry (seen marks) replies)) × (list.new ≡ over (lent_done n prev next spans.entry (seen marks) replies) list.old) }
+    ensures sent_to { SentTo (lent_ticks n prev next spans.entry (seen marks) replies) marks rows }
 {
-    let mut listed = 0usize;
-    let mut i = 0usize;
-    while i < n {
-        let e = Entry {
-            start: starts[i],
-            duration: durations[i],
-            done: marks[i],
-        };
+    // Taken out of the struct, which would be read anew in each turn: some 19 instructions an entry.
+    let kinds = &mut *rows.kinds;
+    let amounts = &mut *rows.amounts;
+    let places = &mut *rows.places;
+    let mut listed = 0;
+    for i in 0..n {
+        let e = entry_at(i, spans, marks);
         let s = steps::tick_entry(prev, next, e, replies[i]);
-        let row = s.row;
-        kinds[i] = row.kind;
-        amounts[i] = row.amount;
-        places[i] = row.place;
+        kinds[i] = s.row.kind;
+        amounts[i] = s.row.amount;
+        places[i] = s.row.place;
         listed = note(marks, list, listed, i, e.done, s.done);
-        i += 1;
     }
     listed
 }

@@ -1,5 +1,7 @@
 -- The numbers by which a call is refused (paper 01, "Refusals"). 0 means accepted.
-use Rattle.std.specs.Prelude.{ℕ, Bool, cond, eqb}
+use Rattle.std.specs.Prelude.{ℕ, Bool, cond, eqb, Option, Some, None, Result, Ok, Err}
+use Rattle.refusal.specs.declared.Refusal.{Refusal}
+use Rattle.refusal.specs.declared.Refusal.TheVariants.{TimelineFull, LabelTooLong, RowsTooShort, BadReplies, ListTooShort, SheetVersion, SheetLength, SheetCount, SheetLoop, SheetPlacement, SheetPair, SheetZero, GridTooLarge, BadCall, RoomTooShort, BadCaption}
 
 -- no refusal
 abbrev pub accepted : ℕ
@@ -78,3 +80,39 @@ refused_if refused number next = cond refused number next
 -- two parts in turn
 abbrev pub in_turn : ℕ → ℕ → ℕ
 in_turn first second = cond (eqb first accepted) second first
+
+-- ---- answers
+
+-- paper 01's number for each refusal
+abbrev pub number : Refusal → ℕ
+number TimelineFull = timeline_full
+number LabelTooLong = label_too_long
+number RowsTooShort = rows_too_short
+number BadReplies = bad_replies
+number ListTooShort = list_too_short
+number SheetVersion = sheet_version
+number SheetLength = sheet_length
+number SheetCount = sheet_count
+number SheetLoop = sheet_loop
+number SheetPlacement = sheet_placement
+number SheetPair = sheet_pair
+number SheetZero = sheet_zero
+number GridTooLarge = grid_too_large
+number BadCall = bad_call
+number RoomTooShort = room_too_short
+number BadCaption = bad_caption
+
+-- the number that an answer gives: 0 means accepted
+abbrev pub number_in : {A : Type 0} → Result A Refusal → ℕ
+number_in (Ok x) = accepted
+number_in (Err r) = number r
+
+-- the number of a refusal, where there is one
+abbrev pub number_if : Option Refusal → ℕ
+number_if None = accepted
+number_if (Some r) = number r
+
+-- what an accepted answer holds; of a refused one, what is given beside it
+abbrev pub held_or : {A : Type 0} → A → Result A Refusal → A
+held_or x (Ok y) = y
+held_or x (Err r) = x

@@ -1,120 +1,52 @@
 // The calls of a script (paper 01, "The door log program"): each byte its call, made in place on what plays.
 #![tactic(auto)]
 
-ghost use Rattle.std.specs.Prelude.{◌≡◌};
-ghost use Rattle.refusal.specs.Refusal.{accepted, bad_call};
 ghost use Rattle.script.specs.Scripts.{MadeInPlace};
 
 use clock::Clock;
+use completions::Spans;
 use player::engine;
-use player::engine::{Moved, Updated};
+use refusal::Refusal;
+use track::rows::Rows;
 use track::track::{Playhead, Secs, Share};
 
-// What a call answers, and the clock that it leaves.
+// What a call leaves: how many completed entries it listed, and the clock to go on with.
 #[derive(Clone, Copy)]
-pub struct Outcome {
-    pub refusal: u8,
+pub struct Made {
     pub listed: usize,
     pub clock: Clock,
 }
 
-// Makes the call of this byte with this f32.
+// Makes the call of this byte with this f32. A refused one has moved nothing, and lists nothing. The bytes are those of a stored script
+// (docs/FORMATS.md), each named here alone: an enum of them would only say the numbers twice.
 pub fn make(
     head: Playhead,
     byte: u8,
     x: f32,
-    starts: &[f32],
-    durations: &[f32],
+    spans: Spans<'_>,
     marks: &mut [bool],
     replies: &[u8],
     list: &mut [u8],
-    kinds: &mut [u8],
-    amounts: &mut [f32],
-    places: &mut [f32],
-) -> Outcome
-    ensures { MadeInPlace head starts durations marks byte x replies result list kinds amounts places }
+    rows: &mut Rows<'_>,
+) -> Result<Made, Refusal>
+    ensures { MadeInPlace head spans.entry marks byte x replies result list rows }
 {
-    match byte {
-        0 => moved(engine::play(head, starts, durations, marks, kinds, amounts, places)),
-        1 => set(head.pause()),
-        2 => set(head.resume()),
-        3 => moved(engine::reset(head, starts, durations, marks, kinds, amounts, places)),
-        4 => updated(engine::update(
-            head, x, starts, durations, marks, replies, list, kinds, amounts, places,
-        )),
-        5 => moved(engine::seek(
-            head,
-            Share(x),
-            starts,
-            durations,
-            marks,
-            kinds,
-            amounts,
-            places,
-        )),
-        6 => moved(engine::seek_abs(
-            head,
-            Secs(x),
-            starts,
-            durations,
-            marks,
-            kinds,
-            amounts,
-            places,
-        )),
-        7 => set(head.set_time_scale(x)),
-        _ => unknown(head),
-    }
-}
-
-// A call that is none leaves what plays.
-fn unknown(head: Playhead) -> Outcome
-    ensures { (result.refusal ≡ bad_call) × (result.listed ≡ 0) × (result.clock ≡ head.clock) }
-{
-    let c = head.clock;
-    let clock = c.kept();
-    Outcome {
-        refusal: refusal::BAD_CALL,
-        listed: 0,
-        clock,
-    }
-}
-
-// A call that refuses nothing left this.
-fn set(head: Playhead) -> Outcome
-    ensures { (result.refusal ≡ accepted) × (result.listed ≡ 0) × (result.clock ≡ head.clock) }
-{
-    let c = head.clock;
-    let clock = c.kept();
-    Outcome {
-        refusal: refusal::ACCEPTED,
-        listed: 0,
-        clock,
-    }
-}
-
-// A call that lists nothing answered this.
-fn moved(m: Moved) -> Outcome
-    ensures { (result.refusal ≡ m.refusal) × (result.listed ≡ 0) × (result.clock ≡ m.clock) }
-{
-    let c = m.clock;
-    let clock = c.kept();
-    Outcome {
-        refusal: m.refusal,
-        listed: 0,
-        clock,
-    }
-}
-
-// An update answered this.
-fn updated(u: Updated) -> Outcome
-    ensures { (result.refusal ≡ u.refusal) × (result.listed ≡ u.listed) × (result.clock ≡ u.clock) }
-{
-    let c = u.clock;
-    let clock = c.kept();
-    Outcome {
-        refusal: u.refusal,
-        listed: u.listed,
-        clock,
-    }
+    let clock = match byte {
+        0 => engine::play(head, spans, marks, rows)?,
+        1 => head.pause().clock,
+        2 => head.resume().clock,
+        3 => engine::reset(head, spans, marks, rows)?,
+        4 => {
+            let updated = engine::update(head, x, spans, marks, replies, list, rows)?;
+            return Ok(Made {
+                listed: updated.listed,
+                clock: updated.clock,
+            });
+        }
+        5 => engine::seek(head, Share(x), spans, marks, rows)?,
+        6 => engine::seek_abs(head, Secs(x), spans, marks, rows)?,
+        7 => head.set_time_scale(x).clock,
+        _ => return Err(Refusal::BadCall),
+    };
+    Ok(Made { listed: 0, clock })
 }

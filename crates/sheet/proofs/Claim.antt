@@ -11,8 +11,7 @@ use Rattle.sheet_format.specs.Check.{check_number}
 use Rattle.sheet_format.specs.Descriptions.{description_in}
 use Rattle.sheet_format.proofs.Accepted.{accepted-sheet}
 use Rattle.sheet_format.proofs.Sheets.{write-whole}
-use Rattle.sheet.specs.declared.Reading.{Reading}
-use Rattle.sheet.specs.Build.{calls_of, read_calls, reading_of}
+use Rattle.sheet.specs.Build.{NumberedReading, calls_of, read_calls, reading_of}
 use Rattle.sheet.specs.Claim.{Rewrites, Claim}
 use Rattle.sheet.proofs.Rewrite.{sheet-same, described-good}
 use Rattle.sheet.proofs.Taken.{taken}
@@ -25,7 +24,7 @@ rewrites s room y e h =
     (w.0, w.1 ∙ same)
 
 -- what is chosen is what its calls make
-chosen : (b : Bool) (x y : Reading) (calls : List Call) → x.timeline ≡ after empty calls → y.timeline ≡ empty → (cond b x y).timeline ≡ after empty (cond b calls [])
+chosen : (b : Bool) (x y : NumberedReading) (calls : List Call) → x.timeline ≡ after empty calls → y.timeline ≡ empty → (cond b x y).timeline ≡ after empty (cond b calls [])
 unfolding after
 chosen true x y calls e f = e
 chosen false x y calls e f = f

@@ -6,12 +6,11 @@ use mathlib.Core.List.{List}
 use borrow.Author.Tests.{eqb-false}
 use lib.Dec.{eqb}
 use Rattle.timeline.specs.Placements.{empty}
-use Rattle.sheet_format.specs.declared.description.Described.{Described}
 use Rattle.sheet_format.specs.Check.{check_number}
-use Rattle.sheet_format.specs.Descriptions.{described_by}
+use Rattle.sheet_format.specs.Descriptions.{NumberedDescription, described_by}
 use Rattle.sheet.specs.Build.{built, reading_of}
 
-module _ (s : List ℕ) (a : Described) (e : a ≡ described_by s) where
+module _ (s : List ℕ) (a : NumberedDescription) (e : a ≡ described_by s) where
   pub reading-refused : (a.refusal ≡ 0 → ⊥) → record { refusal = a.refusal; described = a.description; timeline = empty } ≡ reading_of s
   unfolding described_by reading_of
   reading-refused n = go (eqb (check_number s) 0) refl

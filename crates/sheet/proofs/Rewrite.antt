@@ -9,13 +9,14 @@ use lib.Dec.{eqb}
 use lib.ListN.{length, take, drop, replicate, length-take, length-drop, take-append-drop}
 use lib.Seq.{take-add, take_at, drop-drop, drop-length}
 use Rattle.steps.specs.Times.{max_entries}
+use Rattle.tween.specs.LoopMode.{loop_of}
 use Rattle.label.specs.Label.{max_label, text, label_of}
 use Rattle.label.proofs.Text.{text-whole}
 use Rattle.words.specs.Words.{byte_at, word, bytes_of}
 use Rattle.words.specs.Pairs.{pair_size, offset_in, length_in, part_of, pairs_in_turn}
 use Rattle.sheet_rules.specs.Rules.{header_size, record_size, label_fits, labels_at, placement_good, zeros_good}
 use Rattle.sheet_format.specs.Check.{records_at, count_in, pairs_number, kind_in, target_in, seconds_in, record_number, records_number}
-use Rattle.sheet_format.specs.Descriptions.{blank_item, items_in, loop_of, item_of, items_from, sheet_items, description_in}
+use Rattle.sheet_format.specs.Descriptions.{blank_item, items_in, item_of, items_from, sheet_items, description_in}
 use Rattle.sheet_format.specs.Write.{header_bytes, text_length, pair_of, pairs_of, record_of, records_of, texts_of, sheet_of, labels_good, target_good, targets_good, describe_number}
 use Rattle.words.proofs.Bytes.{Bytes, bytes_drop, bytes_word}
 use Rattle.refusal.proofs.Checks.{passed_good, in_turn_lem}

@@ -14,6 +14,7 @@ use Rattle.sheet_format.specs.declared.description.Item.{Item}
 use Rattle.sheet_format.specs.declared.description.Description.{Description}
 use Rattle.sheet_format.specs.Check.{check_number}
 use Rattle.sheet_format.specs.Descriptions.{items_in, empty_description, description_in}
+use Rattle.refusal.specs.Refusal.{number_if}
 use Rattle.sheet.specs.declared.Reading.{Reading}
 
 -- a placement, with floats; a label that is not found is the end
@@ -62,8 +63,18 @@ built d = after empty (calls_of d)
 unfoldable pub read_calls : List ℕ → List Call
 read_calls s = cond (eqb (check_number s) 0) (calls_of (description_in s)) []
 
+-- what the reader answers: the number by which the bytes are refused, the description and the timeline
+pub record NumberedReading : Type 0 where
+  pub refusal : ℕ
+  pub described : Description
+  pub timeline : Timeline
+
+-- the reader's answer, by the number of its refusal
+abbrev pub numbered_reading : Reading → NumberedReading
+numbered_reading r = record { refusal = number_if r.refusal; described = r.described; timeline = r.timeline }
+
 -- the reader's answer for any bytes: "a refusing reader .. hands out the empty panel, `Once`, scale 1"
-unfoldable pub reading_of : List ℕ → Reading
+unfoldable pub reading_of : List ℕ → NumberedReading
 reading_of s =
     cond (eqb (check_number s) 0)
     (record { refusal = 0; described = description_in s; timeline = built (description_in s) })

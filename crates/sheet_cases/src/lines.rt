@@ -8,14 +8,16 @@
 // `  rooms len digest`, the lengths that it answered added up, and the digest of what it left in the eight rooms.
 //
 // A description's floats are given by their bits. Those of a timeline have 7fc00000 for NaN and 00000000 for either zero.
+ghost use Rattle.std.specs.Prelude.{◌≤◌};
+
 use crate::spoil;
 use case_io::fields;
 use case_io::fields::digit;
-use case_io::text::{BUFFER, Sink};
+use case_io::text::Sink;
 use label::Label;
-use refusal::ACCEPTED;
+use refusal::{ACCEPTED, number_in};
 use sheet_format::description::{Description, Item, Placement};
-use steps::{Entry, MAX_ENTRIES, least};
+use steps::Entry;
 use timeline::timeline::Timeline;
 use tween::Loop;
 
@@ -26,175 +28,100 @@ pub const SHEET: usize = 4096;
 pub const OLD: u8 = 238;
 
 // The lines of a sheet.
-pub(crate) fn sheet(sink: Sink, buffer: &mut [u8; BUFFER], bytes: &[u8]) -> Sink {
+pub(crate) fn sheet(sink: &mut Sink, bytes: &[u8]) {
     let reading = sheet::read(bytes);
-    let d = reading.described;
-    let t = reading.timeline;
-    let s = sink.decimal(buffer, reading.refusal as usize);
-    let s = description(s, buffer, d);
-    let s = timeline(s, buffer, t);
-    if reading.refusal != ACCEPTED {
-        return s;
+    let number = reading.refusal.map_or(ACCEPTED, |r| r.number());
+    sink.decimal(usize::from(number));
+    description(sink, &reading.described);
+    timeline(sink, &reading.timeline);
+    if reading.refusal.is_some() {
+        return;
     }
-    let len = least(bytes.len(), SHEET);
-    let s = written(s, buffer, bytes, d, len + 8);
-    let s = written(s, buffer, bytes, d, len);
-    let s = written(s, buffer, bytes, d, one_less(len));
-    spoil::lines(s, buffer, d, least(len + 8, SHEET))
-}
-
-fn one_less(n: usize) -> usize {
-    if n > 0 { n - 1 } else { 0 }
+    let len = bytes.len().min(SHEET);
+    for size in [len + 8, len, len.saturating_sub(1)] {
+        written(sink, bytes, reading.described, size.min(SHEET));
+    }
+    spoil::lines(sink, reading.described, (len + 8).min(SHEET));
 }
 
 // ` count mode number scale`, and the entries.
-fn description(sink: Sink, buffer: &mut [u8; BUFFER], d: Description) -> Sink {
-    let mode = d.looping;
-    let s = sink.number(buffer, b' ', d.count);
-    let s = looping(s, buffer, mode);
-    let s = s.bits(buffer, b' ', d.time_scale);
-    let mut s = s.byte(buffer, b'\n');
-    let n = least(d.count, MAX_ENTRIES);
-    let items = d.items;
-    let mut i = 0;
-    while i < n {
-        s = item(s, buffer, items[i]);
-        i += 1;
+fn description(sink: &mut Sink, d: &Description) {
+    sink.number(b' ', d.count);
+    looping(sink, d.looping);
+    sink.bits(b' ', d.time_scale);
+    sink.byte(b'\n');
+    for i in d.items() {
+        item(sink, i);
     }
-    s
 }
 
 // ` mode number`
-fn looping(sink: Sink, buffer: &mut [u8; BUFFER], mode: Loop) -> Sink {
-    match mode {
-        Loop::Once => two(sink, buffer, 0, 0),
-        Loop::Times(n) => two(sink, buffer, 1, n),
-        Loop::Forever => two(sink, buffer, 2, 0),
-        Loop::PingPong => two(sink, buffer, 3, 0),
-        Loop::PingPongTimes(n) => two(sink, buffer, 4, n),
-    }
+fn looping(sink: &mut Sink, mode: Loop) {
+    sink.number(b' ', usize::from(mode.mode()));
+    sink.number(b' ', mode.number() as usize);
 }
 
-fn two(sink: Sink, buffer: &mut [u8; BUFFER], mode: usize, n: u32) -> Sink {
-    let s = sink.number(buffer, b' ', mode);
-    s.number(buffer, b' ', n as usize)
-}
-
-fn item(sink: Sink, buffer: &mut [u8; BUFFER], item: Item) -> Sink {
-    let placement = item.at;
-    let label = item.label;
-    let s = sink.bytes(buffer, b"  item");
-    let s = placed(s, buffer, placement);
-    let s = s.bits(buffer, b' ', item.duration);
-    label_end(s, buffer, label)
+fn item(sink: &mut Sink, item: &Item) {
+    sink.bytes(b"  item");
+    placed(sink, item.at);
+    sink.bits(b' ', item.duration);
+    label_end(sink, &item.label);
 }
 
 // ` kind target seconds`
-fn placed(sink: Sink, buffer: &mut [u8; BUFFER], placement: Placement) -> Sink {
-    match placement {
-        Placement::Absolute(seconds) => three(sink, buffer, 0, 0, seconds),
-        Placement::Start => three(sink, buffer, 1, 0, 0),
-        Placement::End => three(sink, buffer, 2, 0, 0),
-        Placement::Label(target) => three(sink, buffer, 3, target, 0),
-        Placement::Offset(seconds) => three(sink, buffer, 4, 0, seconds),
-    }
-}
-
-fn three(sink: Sink, buffer: &mut [u8; BUFFER], kind: usize, target: usize, seconds: u32) -> Sink {
-    let s = sink.number(buffer, b' ', kind);
-    let s = s.number(buffer, b' ', target);
-    s.bits(buffer, b' ', seconds)
+fn placed(sink: &mut Sink, placement: Placement) {
+    let (kind, target, seconds) = match placement {
+        Placement::Absolute(seconds) => (0, 0, seconds),
+        Placement::Start => (1, 0, 0),
+        Placement::End => (2, 0, 0),
+        Placement::Label(target) => (3, target, 0),
+        Placement::Offset(seconds) => (4, 0, seconds),
+    };
+    sink.number(b' ', kind);
+    sink.number(b' ', target);
+    sink.bits(b' ', seconds);
 }
 
 // ` label`, and the end of the line.
-fn label_end(sink: Sink, buffer: &mut [u8; BUFFER], label: Label) -> Sink {
-    let s = sink.byte(buffer, b' ');
-    let s = fields::label(s, buffer, label);
-    s.byte(buffer, b'\n')
+fn label_end(sink: &mut Sink, label: &Label) {
+    sink.byte(b' ');
+    fields::label(sink, label);
+    sink.byte(b'\n');
 }
 
-fn timeline(sink: Sink, buffer: &mut [u8; BUFFER], t: Timeline) -> Sink {
-    let track = t.track;
-    let clock = track.clock;
-    let mode = track.looping;
-    let s = sink.bytes(buffer, b"  timeline");
-    let s = fields::clock(s, buffer, clock);
-    let s = looping(s, buffer, mode);
-    let s = s.number(buffer, b' ', t.entry_count());
-    let s = s.float(buffer, b' ', t.duration());
-    let s = s.float(buffer, b' ', t.playback_duration());
-    let s = s.byte(buffer, b'\n');
-    entries(s, buffer, t)
-}
-
-fn entries(sink: Sink, buffer: &mut [u8; BUFFER], t: Timeline) -> Sink {
-    let n = least(t.entry_count(), MAX_ENTRIES);
-    let track = t.track;
-    let entries = track.entries;
-    let labels = t.labels;
-    let mut s = sink;
-    let mut i = 0;
-    while i < n {
-        s = entry(s, buffer, entries[i], labels[i]);
-        i += 1;
+fn timeline(sink: &mut Sink, t: &Timeline) {
+    sink.bytes(b"  timeline");
+    fields::clock(sink, t.track.clock);
+    looping(sink, t.track.looping);
+    sink.number(b' ', t.entry_count());
+    sink.float(b' ', t.duration());
+    sink.float(b' ', t.playback_duration());
+    sink.byte(b'\n');
+    for (e, label) in t.track.entries.iter().zip(&t.labels).take(t.entry_count()) {
+        entry(sink, e, label);
     }
-    s
 }
 
-fn entry(sink: Sink, buffer: &mut [u8; BUFFER], e: Entry, label: Label) -> Sink {
-    let s = sink.bytes(buffer, b"  entry");
-    let s = s.float(buffer, b' ', e.start);
-    let s = s.float(buffer, b' ', e.duration);
-    let s = s.letter(buffer, b' ', digit(e.done));
-    label_end(s, buffer, label)
+fn entry(sink: &mut Sink, e: &Entry, label: &Label) {
+    sink.bytes(b"  entry");
+    sink.float(b' ', e.start);
+    sink.float(b' ', e.duration);
+    sink.letter(b' ', digit(e.done));
+    label_end(sink, label);
 }
 
 // Writes the description where there is room for `size` bytes.
-fn written(
-    sink: Sink,
-    buffer: &mut [u8; BUFFER],
-    sheet: &[u8],
-    d: Description,
-    size: usize,
-) -> Sink {
+fn written(sink: &mut Sink, sheet: &[u8], d: Description, size: usize)
+    requires { size ≤ 4096 }
+{
     let mut room = [OLD; SHEET];
-    let n = least(size, SHEET);
-    let made = sheet_format::write(d, &mut room[..n]);
-    let s = sink.bytes(buffer, b"  write");
-    let s = s.number(buffer, b' ', made.refusal as usize);
-    let s = s.number(buffer, b' ', made.len);
-    let s = s.letter(buffer, b' ', digit(same(sheet, &room, made.len)));
-    let s = s.letter(buffer, b' ', digit(rest(&room, made.len, n)));
-    s.byte(buffer, b'\n')
-}
-
-// Whether the room starts with the first n bytes of the sheet.
-fn same(sheet: &[u8], room: &[u8; SHEET], n: usize) -> bool {
-    if n > sheet.len() {
-        return false;
-    }
-    if n > SHEET {
-        return false;
-    }
-    let mut i = 0;
-    while i < n {
-        if sheet[i] != room[i] {
-            return false;
-        }
-        i += 1;
-    }
-    true
-}
-
-// Whether the room is as it was from one offset to another.
-fn rest(room: &[u8; SHEET], from: usize, to: usize) -> bool {
-    let end = least(to, SHEET);
-    let mut i = from;
-    while i < end {
-        if room[i] != OLD {
-            return false;
-        }
-        i += 1;
-    }
-    true
+    let answer = sheet_format::write(d, &mut room[..size]);
+    let len = answer.unwrap_or(0);
+    let (bytes, rest) = room.split_at(len.min(SHEET));
+    sink.bytes(b"  write");
+    sink.number(b' ', usize::from(number_in(&answer)));
+    sink.number(b' ', len);
+    sink.letter(b' ', digit(sheet.starts_with(bytes)));
+    sink.letter(b' ', digit(rest.iter().all(|b| *b == OLD)));
+    sink.byte(b'\n');
 }

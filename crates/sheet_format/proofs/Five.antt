@@ -10,8 +10,9 @@ use Rattle.tween.specs.declared.loop_mode.Loop.TheVariants.{Once, Times, Forever
 use Rattle.sheet_format.specs.declared.description.Placement.{Placement}
 use Rattle.sheet_format.specs.declared.description.Placement.TheVariants.{Absolute, Start, End, Label as Labeled, Offset}
 use Rattle.sheet_rules.specs.Rules.{loop_good, placement_good, zeros_good}
-use Rattle.sheet_format.specs.Descriptions.{loop_of, placement_of}
-use Rattle.sheet_format.specs.Write.{mode_of, number_of, kind_of, target_of, seconds_of, target_good}
+use Rattle.tween.specs.LoopMode.{loop_of, mode_of, number_of}
+use Rattle.sheet_format.specs.Descriptions.{placement_of}
+use Rattle.sheet_format.specs.Write.{kind_of, target_of, seconds_of, target_good}
 use Rattle.steps.proofs.Tests.{and-true}
 
 -- what holds of 0 to 4 holds up to 4

@@ -8,6 +8,7 @@ use borrow.Author.Tests.{leb-true, le-leb, le-ltb, eq-eqb}
 use lib.Dec.{leb}
 use lib.ListN.{length, take, drop, get_or, length-append, length-take}
 use lib.Seq.{take_all, take-append_seam, drop_at, drop-drop}
+use Rattle.tween.specs.LoopMode.{loop_of, mode_of, number_of}
 use Rattle.label.specs.Label.{max_label, text}
 use Rattle.sheet_format.specs.declared.description.Item.{Item}
 use Rattle.sheet_format.specs.declared.description.Description.{Description}
@@ -15,8 +16,8 @@ use Rattle.words.specs.Words.{byte_at, word, bytes_of}
 use Rattle.words.specs.Pairs.{pair_size, offset_in, length_in, part_of, pairs_in_turn}
 use Rattle.sheet_rules.specs.Rules.{header_size, record_size, labels_at}
 use Rattle.sheet_format.specs.Check.{records_at, count_in, header_number, pairs_number, kind_in, target_in, seconds_in, duration_in, record_number, records_number, check_number}
-use Rattle.sheet_format.specs.Descriptions.{described_by, blank_item, items_in, loop_of, item_of, items_from, sheet_items, description_in, clean_item, cleaned}
-use Rattle.sheet_format.specs.Write.{mode_of, number_of, kind_of, target_of, seconds_of, header_bytes, text_length, pair_of, pairs_of, record_of, records_of, texts_of, sheet_of, labels_good, target_good, targets_good, describe_number, ReadsBack}
+use Rattle.sheet_format.specs.Descriptions.{described_by, blank_item, items_in, item_of, items_from, sheet_items, description_in, clean_item, cleaned}
+use Rattle.sheet_format.specs.Write.{kind_of, target_of, seconds_of, header_bytes, text_length, pair_of, pairs_of, record_of, records_of, texts_of, sheet_of, labels_good, target_good, targets_good, describe_number, ReadsBack}
 use Rattle.words.proofs.Bytes.{length-bytes, word_bytes}
 use Rattle.sheet_format.proofs.Accepted.{Header, Accepted}
 use Rattle.steps.proofs.Tests.{and-true}
@@ -93,7 +94,7 @@ records_step n k x records rest f g =
 short : (x : Item) → leb x.label.len max_label ≡ true → text_length x ≤ max_label
 short x g = omega (arith, length-take x.label.len x.label.bytes, leb-true x.label.len max_label g)
 
-texts-short : (xs : List Item) → labels_good xs ≡ true → length (texts_of xs) ≤ 24 * length xs
+pub texts-short : (xs : List Item) → labels_good xs ≡ true → length (texts_of xs) ≤ 24 * length xs
 unfolding labels_good texts_of
 texts-short [] g = omega arith
 texts-short (x ∷ xs) g =

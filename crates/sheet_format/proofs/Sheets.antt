@@ -1,6 +1,6 @@
 -- How long a sheet is, and what the writer answers.
-use mathlib.Core.List.{[]}
-use Prim.Native.Nat.{ℕ, ◌+◌, ◌≤◌, ◌<◌}
+use mathlib.Core.List.{List, []}
+use Prim.Native.Nat.{ℕ, ◌+◌, ◌≤◌, ◌<◌, min}
 use mathlib.Core.Path.{◌≡◌, refl}
 use mathlib.Core.Bool.{true, false}
 use native.Mathlib.Omega.{arith}
@@ -10,6 +10,7 @@ use lib.ListN.{length, length-append, length-take}
 use Rattle.refusal.specs.Refusal.{room_too_short}
 use Rattle.steps.specs.Times.{max_entries}
 use Rattle.tween.specs.declared.loop_mode.Loop.{Loop}
+use Rattle.sheet_format.specs.declared.description.Item.{Item}
 use Rattle.sheet_format.specs.declared.description.Description.{Description}
 use Rattle.sheet_rules.specs.Rules.{header_size, labels_at}
 use Rattle.sheet_format.specs.Descriptions.{items_in}
@@ -56,11 +57,23 @@ pub record Fitting (d : Description) (room : ℕ) : Type 0 where
   pub items : length (items_in d) ≡ d.count
   pub fits : labels_at d.count + length (texts_of (items_in d)) ≤ room
 
-pub fitting : (d : Description) (room : ℕ) → length d.items ≡ max_entries → describe_number d ≡ 0 → length (sheet_of d) ≤ room → Fitting d room
+pub fitting : (d : Description) (room : ℕ) → length (items_in d) ≡ min d.count max_entries → describe_number d ≡ 0 → length (sheet_of d) ≤ room → Fitting d room
 fitting d room h e k =
     let g = described d e in
-    let l = length-items d h g.few in
-    record { few = g.few; targets = g.targets; items = l; fits = omega (arith, length-sheet d l) }
+    let f = g.few in
+    let l : length (items_in d) ≡ d.count = omega arith in
+    record { few = f; targets = g.targets; items = l; fits = omega (arith, length-sheet d l) }
+
+-- where the labels start, and how long they are, is how long the sheet is
+pub size-sheet : (d : Description) (items : List Item) (at len : ℕ) → describe_number d ≡ 0 → items ≡ items_in d → length items ≡ min d.count max_entries
+    → at ≡ labels_at (length items) → len ≡ length (texts_of items) → at + len ≡ length (sheet_of d)
+size-sheet d items at len e v h a t =
+    let few = (described d e).few in
+    let h' = rw v at h in
+    let a' = rw v at a in
+    let t' = rw v at t in
+    let l : length (items_in d) ≡ d.count = omega arith in
+    omega (arith, length-sheet d l)
 
 module _ (d : Description) (room : ℕ) where
   -- the description is refused

@@ -1,17 +1,23 @@
 -- The definitions that go over entries in turn, at a turn of a loop over i of n.
 use Prim.Native.Nat.{ℕ, zero, suc, ◌+◌, ◌-◌, ◌*◌, ◌≤◌, ◌<◌}
-use mathlib.Core.Path.{◌≡◌, refl}
+use mathlib.Core.Path.{◌≡◌, refl, sym}
 use mathlib.Core.Bool.{true, false, cond, not}
 use mathlib.Core.List.{List, [], ◌∷◌, ◌++◌}
 use native.Mathlib.Nat.{not-suc-le-zero, le_of_suc-le-suc}
 use native.Mathlib.Numerals.{add-one}
 use native.Mathlib.Omega.{arith}
 use borrow.Author.Tests.{ltb-true}
+use Rattle.std.specs.Prelude.{sum_by}
+use Rattle.std.specs.List.{list_all}
+use Rattle.std.proofs.lemmas.List.Recursion.{is_sum_by}
 use lib.Dec.{eqb, leb}
-use lib.ListN.{length, take, drop, get_or, length-append, length-take, drop_of_length-le}
-use lib.Seq.{drop-cons, drop-drop, get_or-take}
-use Rattle.refusal.specs.Refusal.{accepted, sheet_length, sheet_pair}
-use Rattle.label.specs.Label.{max_label, text, no_label}
+use lib.ListN.{length, drop, get_or, length-append}
+use lib.Seq.{drop-cons, drop-drop}
+use Rattle.refusal.specs.declared.Refusal.{Refusal}
+use Rattle.refusal.specs.Refusal.{accepted, number, sheet_length, sheet_pair}
+use Rattle.refusal.proofs.Numbers.{refused}
+use Rattle.steps.specs.Times.{max_entries}
+use Rattle.label.specs.Label.{max_label, text}
 use Rattle.sheet_format.specs.declared.description.Placement.{Placement}
 use Rattle.sheet_format.specs.declared.description.Placement.TheVariants.{Absolute, Start, End, Label as Labeled, Offset}
 use Rattle.sheet_format.specs.declared.description.Item.{Item}
@@ -38,10 +44,10 @@ module _ (n i : ℕ) where
     unfolding pairs_in_turn
     pairs-bad h g = rw (turn h, g)
 
-    pub pairs-more : i < n → pair_good offset (drop at s) ≡ true
-        → pairs_number len offset (n - i) (drop at s) ≡ pairs_number len (offset + length_in (drop at s)) (n - (i + 1)) (drop (at + pair_size) s)
+    pub pairs-more : (next : ℕ) → next ≡ at + pair_size → i < n → pair_good offset (drop at s) ≡ true
+        → pairs_number len offset (n - i) (drop at s) ≡ pairs_number len (offset + length_in (drop at s)) (n - (i + 1)) (drop next s)
     unfolding pairs_in_turn
-    pairs-more h g = rw (turn h, g, drop-drop pair_size at s)
+    pairs-more next e h g = rw (e, turn h, g, drop-drop pair_size at s)
 
     pub pairs_end : n ≤ i → pairs_number len offset (n - i) (drop at s) ≡ cond (not (eqb offset len)) sheet_length accepted
     unfolding pairs_in_turn
@@ -50,13 +56,13 @@ module _ (n i : ℕ) where
   -- ---- the records
 
   module _ (count at : ℕ) (s : List ℕ) where
-    pub records-bad : i < n → eqb (record_number count (drop at s)) accepted ≡ false → records_number count (n - i) (drop at s) ≡ record_number count (drop at s)
+    pub records-bad : (r : Refusal) → i < n → number r ≡ record_number count (drop at s) → records_number count (n - i) (drop at s) ≡ number r
     unfolding records_number
-    records-bad h g = rw (turn h, g)
+    records-bad r h e = rw (turn h, ← e, refused r)
 
-    pub records-more : i < n → eqb (record_number count (drop at s)) accepted ≡ true → records_number count (n - i) (drop at s) ≡ records_number count (n - (i + 1)) (drop (at + record_size) s)
+    pub records-more : (next : ℕ) → next ≡ at + record_size → i < n → accepted ≡ record_number count (drop at s) → records_number count (n - i) (drop at s) ≡ records_number count (n - (i + 1)) (drop next s)
     unfolding records_number
-    records-more h g = rw (turn h, g, drop-drop record_size at s)
+    records-more next e h g = rw (e, turn h, ← g, drop-drop record_size at s)
 
     pub records-end : n ≤ i → records_number count (n - i) (drop at s) ≡ accepted
     unfolding records_number
@@ -64,75 +70,54 @@ module _ (n i : ℕ) where
 
   -- ---- the entries that are read
 
-  pub items_more : (s : List ℕ) (pair at : ℕ) → i < n
-      → items_from s (n - i) (drop pair s) (drop at s) ≡ item_of s (drop pair s) (drop at s) ∷ items_from s (n - (i + 1)) (drop (pair + pair_size) s) (drop (at + record_size) s)
+  pub items_more : (s : List ℕ) (pair at next_pair next : ℕ) → next_pair ≡ pair + pair_size → next ≡ at + record_size → i < n
+      → items_from s (n - i) (drop pair s) (drop at s) ≡ item_of s (drop pair s) (drop at s) ∷ items_from s (n - (i + 1)) (drop next_pair s) (drop next s)
   unfolding items_from
-  items_more s pair at h = rw (turn h, drop-drop pair_size pair s, drop-drop record_size at s)
+  items_more s pair at next_pair next e f h = rw (e, f, turn h, drop-drop pair_size pair s, drop-drop record_size at s)
 
   pub items-end : (s pairs records : List ℕ) → n ≤ i → items_from s (n - i) pairs records ≡ []
   unfolding items_from
   items-end s pairs records h = rw (done h)
 
--- ---- the entries that are written: the first n of an array
+-- ---- the entries that are written, from i on
 
--- what is read past the last entry
-abbrev pub unread : Item
-unread = record { duration = 0; at = Absolute 0; label = no_label }
-
--- after the last turn none is left
-pub live_end : (n i : ℕ) (items : List Item) → n ≤ i → drop i (take n items) ≡ []
-live_end n i items h =
-    let l : length (take n items) ≤ i = omega (arith, length-take n items) in
-    drop_of_length-le (take n items) l
-
-module _ (n i : ℕ) (items : List Item) (d : Item) where
+module _ (i : ℕ) (xs : List Item) (d : Item) (h : i < length xs) where
   -- at a turn one is in front
-  pub live-cons : i < n → n ≤ length items → drop i (take n items) ≡ get_or items i d ∷ drop (i + 1) (take n items)
-  live-cons h k =
-      let l : i < length (take n items) = omega (arith, length-take n items) in
-      rw (drop-cons (take n items) i d l, get_or-take n items i d h, add-one)
+  pub item-cons : drop i xs ≡ get_or xs i d ∷ drop (i + 1) xs
+  item-cons = rw (drop-cons xs i d h, add-one)
 
-  pub labels-bad : i < n → n ≤ length items → leb (get_or items i d).label.len max_label ≡ false → labels_good (drop i (take n items)) ≡ false
-  unfolding labels_good
-  labels-bad h k g = rw (live-cons h k, g)
-
-  pub labels-more : i < n → n ≤ length items → leb (get_or items i d).label.len max_label ≡ true → labels_good (drop i (take n items)) ≡ labels_good (drop (i + 1) (take n items))
-  unfolding labels_good
-  labels-more h k g = rw (live-cons h k, g)
-
-  pub targets-bad : (m : ℕ) → i < n → n ≤ length items → target_good m (get_or items i d).at ≡ false → targets_good m (drop i (take n items)) ≡ false
-  unfolding targets_good
-  targets-bad m h k g = rw (live-cons h k, g)
-
-  pub targets-more : (m : ℕ) → i < n → n ≤ length items → target_good m (get_or items i d).at ≡ true → targets_good m (drop i (take n items)) ≡ targets_good m (drop (i + 1) (take n items))
-  unfolding targets_good
-  targets-more m h k g = rw (live-cons h k, g)
-
-  pub pairs-live : (offset len : ℕ) → len ≡ text_length (get_or items i d) → i < n → n ≤ length items
-      → pairs_of offset (drop i (take n items)) ≡ pair_of offset len ++ pairs_of (offset + len) (drop (i + 1) (take n items))
+  pub pairs-live : (offset len : ℕ) → len ≡ text_length (get_or xs i d) → pairs_of offset (drop i xs) ≡ pair_of offset len ++ pairs_of (offset + len) (drop (i + 1) xs)
   unfolding pairs_of
-  pairs-live offset len e h k = rw (live-cons h k, e)
+  pairs-live offset len e = rw (item-cons, e)
 
-  pub records-live : i < n → n ≤ length items → records_of (drop i (take n items)) ≡ record_of (get_or items i d) ++ records_of (drop (i + 1) (take n items))
+  pub records-live : records_of (drop i xs) ≡ record_of (get_or xs i d) ++ records_of (drop (i + 1) xs)
   unfolding records_of
-  records-live h k = rw (live-cons h k)
+  records-live = rw item-cons
 
-  pub texts-live : i < n → n ≤ length items → texts_of (drop i (take n items)) ≡ text (get_or items i d).label ++ texts_of (drop (i + 1) (take n items))
+  pub texts-live : texts_of (drop i xs) ≡ text (get_or xs i d).label ++ texts_of (drop (i + 1) xs)
   unfolding texts_of
-  texts-live h k = rw (live-cons h k)
+  texts-live = rw item-cons
 
-  pub texts-count : (len : ℕ) → len ≡ text_length (get_or items i d) → i < n → n ≤ length items → length (texts_of (drop i (take n items))) ≡ len + length (texts_of (drop (i + 1) (take n items)))
-  texts-count len e h k = rw (texts-live h k, e) (length-append (text (get_or items i d).label) (texts_of (drop (i + 1) (take n items))))
+  pub texts-count : (len : ℕ) → len ≡ text_length (get_or xs i d) → length (texts_of (drop i xs)) ≡ len + length (texts_of (drop (i + 1) xs))
+  texts-count len e = rw (texts-live, e) (length-append (text (get_or xs i d).label) (texts_of (drop (i + 1) xs)))
 
--- nothing is left to check or to write
-pub labels_end : labels_good [] ≡ true
+-- ---- checks and a sum over entries
+
+pub labels-all : (xs : List Item) → list_all (λ (x : Item). leb x.label.len max_label) xs ≡ labels_good xs
 unfolding labels_good
-labels_end = refl
+labels-all [] = refl
+labels-all (x ∷ xs) = rw (labels-all xs)
 
-pub targets_end : (m : ℕ) → targets_good m [] ≡ true
+pub targets-all : (n : ℕ) (xs : List Item) → list_all (λ (x : Item). target_good n x.at) xs ≡ targets_good n xs
 unfolding targets_good
-targets_end m = refl
+targets-all n [] = refl
+targets-all n (x ∷ xs) = rw (targets-all n xs)
 
+pub texts-sum : (xs : List Item) → sum_by text_length xs ≡ length (texts_of xs)
+unfolding texts_of
+texts-sum xs = sym (is_sum_by (λ (ys : List Item). length (texts_of ys)) text_length refl (λ x ys. length-append (text x.label) (texts_of ys)) xs)
+
+-- nothing is left to write
 pub pairs_none : (offset : ℕ) → pairs_of offset [] ≡ []
 unfolding pairs_of
 pairs_none offset = refl
@@ -187,8 +172,6 @@ target_below m End g = omega arith
 target_below m (Labeled k) g = omega (arith, ltb-true k m g)
 target_below m (Offset s) g = omega arith
 
-pub target_live : (m n i : ℕ) (items : List Item) (d : Item) → targets_good m (take n items) ≡ true → i < n → n ≤ length items → target_of (get_or items i d).at ≤ m
-target_live m n i items d g h k =
-    let l : i < length (take n items) = omega (arith, length-take n items) in
-    let t = target_at m (take n items) i d g l in
-    target_below m (get_or items i d).at (rw (get_or-take n items i d h) at t)
+-- so it fits a byte
+pub target_small : (m : ℕ) (xs : List Item) (i : ℕ) (d : Item) → m ≤ max_entries → targets_good m xs ≡ true → i < length xs → target_of (get_or xs i d).at < 256
+target_small m xs i d f g h = omega (arith, target_below m (get_or xs i d).at (target_at m xs i d g h))

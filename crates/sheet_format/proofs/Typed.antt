@@ -18,7 +18,8 @@ use Rattle.sheet_format.specs.declared.description.Placement.TheVariants.{Absolu
 use Rattle.sheet_format.specs.declared.description.Item.{Item}
 use Rattle.sheet_format.specs.declared.description.Description.{Description}
 use Rattle.sheet_format.specs.Descriptions.{blank_item}
-use Rattle.sheet_format.specs.Write.{number_of, seconds_of}
+use Rattle.tween.specs.LoopMode.{number_of}
+use Rattle.sheet_format.specs.Write.{seconds_of}
 use Rattle.sheet_format.specs.contracts.description.Placement as P
 use Rattle.sheet_format.specs.contracts.description.Item as I
 use Rattle.sheet_format.specs.contracts.description.Description as D

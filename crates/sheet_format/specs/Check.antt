@@ -1,5 +1,6 @@
 -- The number by which a sheet is refused, for every byte string (paper 01, "The sheet" and "Checks"). Definitions only.
 use Rattle.std.specs.Prelude.{ℕ, zero, suc, ◌+◌, ◌*◌, Bool, List, ltb, length, drop}
+use Rattle.sheet_rules.specs.declared.Record.{Record}
 use Rattle.refusal.specs.Refusal.{accepted, sheet_length, sheet_pair, refused_if, in_turn}
 use Rattle.words.specs.Pairs.{pair_size, offset_in, length_in, pairs_in_turn}
 use Rattle.sheet_rules.specs.Rules.{header_size, record_size, labels_at, header_refusal, label_fits, pair_fits, record_refusal}
@@ -45,6 +46,17 @@ seconds_in records = word 4 (drop 4 records)
 
 abbrev pub duration_in : List ℕ → ℕ
 duration_in records = word 4 (drop 8 records)
+
+-- the record at the front, without the duration bits
+abbrev pub record_in : List ℕ → Record
+record_in records =
+    record {
+      kind = kind_in records;
+      target = target_in records;
+      first_zero = byte_at records 2;
+      second_zero = byte_at records 3;
+      seconds = seconds_in records;
+    }
 
 -- the record at the front, in a sheet of n entries
 unfoldable pub record_number : ℕ → List ℕ → ℕ

@@ -1,8 +1,10 @@
 -- The description that a sheet's bytes say. Definitions only.
-use Rattle.std.specs.Prelude.{ℕ, zero, suc, ◌-◌, cond, List, [], ◌∷◌, ◌++◌, map, eqb, take, drop, replicate}
+use Rattle.std.specs.Prelude.{ℕ, zero, suc, ◌-◌, cond, List, [], ◌∷◌, ◌++◌, map, eqb, take, drop, replicate, Option, Some, None}
+use Rattle.refusal.specs.declared.Refusal.{Refusal}
+use Rattle.refusal.specs.Refusal.{accepted, number_if}
 use Rattle.steps.specs.Times.{max_entries}
-use Rattle.tween.specs.declared.loop_mode.Loop.{Loop}
-use Rattle.tween.specs.declared.loop_mode.Loop.TheVariants.{Once, Times, Forever, PingPong, PingPongTimes}
+use Rattle.tween.specs.declared.loop_mode.Loop.TheVariants.{Once}
+use Rattle.tween.specs.LoopMode.{loop_of}
 use Rattle.label.specs.Label.{text, with_text, label_of}
 use Rattle.sheet_format.specs.declared.description.Placement.{Placement}
 use Rattle.sheet_format.specs.declared.description.Placement.TheVariants.{Absolute, Start, End, Label as Labeled, Offset}
@@ -29,14 +31,6 @@ unfoldable pub empty_description : Description
 empty_description = record { count = 0; looping = Once; time_scale = 0x3f800000; items = replicate max_entries blank_item }
 
 -- ---- what the bytes say
-
--- "mode (order of part 2)"
-unfoldable pub loop_of : ℕ → ℕ → Loop
-loop_of mode number =
-    cond (eqb mode 0) Once
-    (cond (eqb mode 1) (Times number)
-    (cond (eqb mode 2) Forever
-    (cond (eqb mode 3) PingPong (PingPongTimes number))))
 
 -- "kind (order above)"
 unfoldable pub placement_of : ℕ → ℕ → ℕ → Placement
@@ -71,8 +65,19 @@ description_in s =
       items = sheet_items s ++ replicate (max_entries - count_in s) blank_item;
     }
 
+-- ---- what the reader answers
+
+-- the number by which the bytes are refused, and the description
+pub record NumberedDescription : Type 0 where
+  pub refusal : ℕ
+  pub description : Description
+
+-- the reader's answer, by the number of its refusal
+abbrev pub numbered : Described → NumberedDescription
+numbered d = record { refusal = number_if d.refusal; description = d.description }
+
 -- the answer for any bytes: the number, and the description, which is the empty panel's on refusal
-unfoldable pub described_by : List ℕ → Described
+unfoldable pub described_by : List ℕ → NumberedDescription
 described_by s =
     cond (eqb (check_number s) 0)
     (record { refusal = 0; description = description_in s })

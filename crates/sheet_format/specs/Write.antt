@@ -1,35 +1,20 @@
 -- The bytes that a description is written as, and when it is refused. Definitions only.
-use Rattle.std.specs.Prelude.{ℕ, ◌+◌, ◌≡◌, Bool, true, cond, not, ◌&&◌, List, [], ◌∷◌, ◌++◌, eqb, leb, ltb, length, take, drop}
-use Rattle.refusal.specs.Refusal.{accepted, sheet_count, sheet_placement, sheet_pair, room_too_short, refused_if}
+use Rattle.std.specs.Prelude.{ℕ, ◌+◌, ◌≡◌, Bool, true, cond, not, ◌&&◌, List, [], ◌∷◌, ◌++◌, eqb, leb, ltb, length, take, drop, Result}
+use Rattle.refusal.specs.declared.Refusal.{Refusal}
+use Rattle.refusal.specs.Refusal.{accepted, sheet_count, sheet_placement, sheet_pair, room_too_short, refused_if, number_in, held_or}
 use Rattle.steps.specs.Times.{max_entries}
 use Rattle.tween.specs.declared.loop_mode.Loop.{Loop}
-use Rattle.tween.specs.declared.loop_mode.Loop.TheVariants.{Once, Times, Forever, PingPong, PingPongTimes}
+use Rattle.tween.specs.LoopMode.{mode_of, number_of}
 use Rattle.label.specs.Label.{max_label, text}
 use Rattle.sheet_format.specs.declared.description.Placement.{Placement}
 use Rattle.sheet_format.specs.declared.description.Placement.TheVariants.{Absolute, Start, End, Label as Labeled, Offset}
 use Rattle.sheet_format.specs.declared.description.Item.{Item}
 use Rattle.sheet_format.specs.declared.description.Description.{Description}
-use Rattle.sheet_format.specs.declared.writing.Written.{Written}
 use Rattle.words.specs.Words.{bytes_of}
 use Rattle.sheet_rules.specs.Rules.{labels_at}
 use Rattle.sheet_format.specs.Descriptions.{items_in, described_by, cleaned}
 
 -- ---- the bytes
-
--- "mode (order of part 2)", and the loop number, 0 where the mode has none
-abbrev pub mode_of : Loop → ℕ
-mode_of Once = 0
-mode_of (Times n) = 1
-mode_of Forever = 2
-mode_of PingPong = 3
-mode_of (PingPongTimes n) = 4
-
-abbrev pub number_of : Loop → ℕ
-number_of Once = 0
-number_of (Times n) = n
-number_of Forever = 0
-number_of PingPong = 0
-number_of (PingPongTimes n) = n
 
 -- "kind (order above), target", and the seconds bits, 0 where the kind has none
 abbrev pub kind_of : Placement → ℕ
@@ -125,6 +110,14 @@ write_number d room =
 -- what is written: the sheet, or nothing on refusal
 unfoldable pub written_bytes : Description → ℕ → List ℕ
 written_bytes d room = cond (eqb (write_number d room) accepted) (sheet_of d) []
+
+-- the writer's answer: the number by which it refuses, and how long the sheet is; 0 where nothing was written
+pub record Written : Type 0 where
+  pub refusal : ℕ
+  pub len : ℕ
+
+abbrev pub written_as : Result ℕ Refusal → Written
+written_as r = record { refusal = number_in r; len = held_or 0 r }
 
 -- the answer, and what the room holds then
 abbrev pub written_answer : Description → ℕ → Written

@@ -1,24 +1,19 @@
 // The checks of a sheet, in the order of paper 01.
 ghost use Rattle.std.specs.Prelude.{◌≡◌};
+ghost use Rattle.refusal.specs.Refusal.{number_in};
 ghost use Rattle.sheet_format.specs.Check.{check_number};
 
 use crate::header::{check_header, count};
 use crate::pairs::check_pairs;
 use crate::records::check_records;
-use refusal::ACCEPTED;
+use refusal::Refusal;
 
-// The number by which a sheet is refused; 0 is accepted.
-pub fn check(sheet: &[u8]) -> u8
-    ensures { result ≡ check_number sheet.now }
+// Whether a sheet is accepted, or why it is refused.
+pub fn check(sheet: &[u8]) -> Result<(), Refusal>
+    ensures { number_in result ≡ check_number sheet.now }
 {
-    let header = check_header(sheet);
-    if header != ACCEPTED {
-        return header;
-    }
+    check_header(sheet)?;
     let n = count(sheet);
-    let pairs = check_pairs(sheet, n);
-    if pairs != ACCEPTED {
-        return pairs;
-    }
+    check_pairs(sheet, n)?;
     check_records(sheet, n)
 }

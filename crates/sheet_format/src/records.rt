@@ -1,135 +1,70 @@
 // The records: where each entry is placed, and how long it is.
-ghost use Rattle.std.specs.Prelude.{◌≡◌, true, ◌+◌, ◌<◌, ◌≤◌, length, take, drop};
+ghost use Rattle.std.specs.Prelude.{◌≡◌, true, ◌+◌, ◌<◌, ◌≤◌, length, drop};
 ghost use Rattle.steps.specs.Times.{max_entries};
 ghost use Rattle.digits.specs.Digits.{put_at};
+ghost use Rattle.refusal.specs.Refusal.{number_in};
 ghost use Rattle.sheet_rules.specs.Rules.{record_size, labels_at};
-ghost use Rattle.sheet_format.specs.Check.{records_at, record_number, records_number};
-ghost use Rattle.sheet_format.specs.Descriptions.{placement_of};
-ghost use Rattle.sheet_format.specs.Write.{kind_of, target_of, seconds_of, record_of, records_of, targets_good};
+ghost use Rattle.sheet_format.specs.Check.{records_at, record_in, records_number};
+ghost use Rattle.sheet_format.specs.Write.{target_of, record_of, records_of, targets_good};
 
-use crate::description::{Item, Placement};
+use crate::description::Item;
 use crate::header::records_at;
-use crate::put::{put_four, put_u32};
-use refusal::ACCEPTED;
-use sheet_rules::{RECORD_SIZE, record_refusal};
-use steps::MAX_ENTRIES;
+use crate::put::put;
+use refusal::Refusal;
+use sheet_rules::{RECORD_SIZE, Record};
 use words::u32_at;
 
-// The number by which the record at `at` of a sheet of n entries is refused.
-fn check_record(sheet: &[u8], at: usize, n: usize) -> u8
+// The record at `at`.
+pub(crate) fn record_at(sheet: &[u8], at: usize) -> Record
     requires { at + record_size ≤ length sheet.now }
-    ensures { result ≡ record_number n (drop at sheet.now) }
+    ensures { result ≡ record_in (drop at sheet.now) }
 {
     let record = &sheet[at..];
-    let seconds = u32_at(record, 4);
-    record_refusal(n, record[0], record[1], record[2], record[3], seconds)
+    Record {
+        kind: record[0],
+        target: record[1],
+        first_zero: record[2],
+        second_zero: record[3],
+        seconds: u32_at(record, 4),
+    }
 }
 
-// The records of n entries, in turn.
-pub(crate) fn check_records(sheet: &[u8], n: usize) -> u8
+// The records of n entries, in turn, by offset.
+pub(crate) fn check_records(sheet: &[u8], n: usize) -> Result<(), Refusal>
     requires { (n ≤ max_entries) × (labels_at n ≤ length sheet.now) }
-    ensures { result ≡ records_number n n (drop (records_at n) sheet.now) }
+    ensures { number_in result ≡ records_number n n (drop (records_at n) sheet.now) }
 {
-    let mut at = records_at(n);
-    let mut i = 0usize;
-    while i < n {
-        let refusal = check_record(sheet, at, n);
-        if refusal != ACCEPTED {
-            return refusal;
-        }
-        at += RECORD_SIZE;
-        i += 1;
+    let start = records_at(n);
+    for i in 0..n {
+        let record = record_at(sheet, start + RECORD_SIZE * i);
+        record.check(n)?;
     }
-    ACCEPTED
-}
-
-// The placement that a record's kind, target and seconds bits say.
-pub(crate) fn placement_of(kind: u8, target: u8, seconds: u32) -> Placement
-    ensures { result ≡ placement_of kind target seconds }
-{
-    if kind == 0 {
-        return Placement::Absolute(seconds);
-    }
-    if kind == 1 {
-        return Placement::Start;
-    }
-    if kind == 2 {
-        return Placement::End;
-    }
-    if kind == 3 {
-        return Placement::Label(target as usize);
-    }
-    Placement::Offset(seconds)
-}
-
-// The byte of a placement.
-fn kind_of(at: Placement) -> u8
-    ensures { result ≡ kind_of at }
-{
-    match at {
-        Placement::Absolute(_) => 0,
-        Placement::Start => 1,
-        Placement::End => 2,
-        Placement::Label(_) => 3,
-        Placement::Offset(_) => 4,
-    }
-}
-
-// The entry that a placement names; 0 where it names none.
-fn target_of(at: Placement) -> usize
-    ensures { result ≡ target_of at }
-{
-    match at {
-        Placement::Absolute(_) => 0,
-        Placement::Start => 0,
-        Placement::End => 0,
-        Placement::Label(target) => target,
-        Placement::Offset(_) => 0,
-    }
-}
-
-// The seconds bits of a placement; 0 where it has none.
-fn seconds_of(at: Placement) -> u32
-    ensures { result ≡ seconds_of at }
-{
-    match at {
-        Placement::Absolute(seconds) => seconds,
-        Placement::Start => 0,
-        Placement::End => 0,
-        Placement::Label(_) => 0,
-        Placement::Offset(seconds) => seconds,
-    }
+    Ok(())
 }
 
 // Writes an entry's record.
-fn put_record(room: &mut [u8], at: usize, item: Item)
-    requires { (at + record_size ≤ length room.old) × (target_of item.at < 256) }
-    ensures { room.new ≡ put_at (record_of item) at room.old }
+fn put_record(room: &mut [u8], at: usize, item: &Item)
+    requires { (at + record_size ≤ length room.old) × (target_of item.now.at < 256) }
+    ensures { room.new ≡ put_at (record_of item.now) at room.old }
 {
     let placement = item.at;
-    put_four(
+    put(
         room,
         at,
-        kind_of(placement),
-        target_of(placement) as u8,
-        0,
-        0,
+        &[placement.kind(), placement.target() as u8, 0, 0],
     );
-    put_u32(room, at + 4, seconds_of(placement));
-    put_u32(room, at + 8, item.duration);
+    put(room, at + 4, &placement.seconds().to_le_bytes());
+    put(room, at + 8, &item.duration.to_le_bytes());
 }
 
-// Writes the records of the first n entries.
-pub(crate) fn put_records(room: &mut [u8], items: [Item; MAX_ENTRIES], n: usize)
-    requires { (n ≤ max_entries) × (labels_at n ≤ length room.old) × (targets_good n (take n items) ≡ true) }
-    ensures { room.new ≡ put_at (records_of (take n items)) (records_at n) room.old }
+// Writes the records of these entries.
+pub(crate) fn put_records(room: &mut [u8], items: &[Item])
+    requires { (length items.now ≤ max_entries) × (labels_at (length items.now) ≤ length room.old) × (targets_good (length items.now) items.now ≡ true) }
+    ensures { room.new ≡ put_at (records_of items.now) (records_at (length items.now)) room.old }
 {
-    let mut at = records_at(n);
-    let mut i = 0usize;
-    while i < n {
-        let item = items[i];
+    let mut at = records_at(items.len());
+    for item in items {
         put_record(room, at, item);
         at += RECORD_SIZE;
-        i += 1;
     }
 }

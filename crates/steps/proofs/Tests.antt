@@ -11,25 +11,13 @@ module _ {A : Type 0} where
   pub no : (b : Bool) (x y z : A) → b ≡ false → z ≡ y → z ≡ cond b x y
   no b x y z p e = rw p e
 
--- one of two, and neither
+-- one of two
 pub or_left : (a b : Bool) → a ≡ true → (a || b) ≡ true
 or_left a b p = rw p
 
-pub or_right : (a b : Bool) → a ≡ false → b ≡ true → (a || b) ≡ true
-or_right a b p q = rw (p, q)
-
-pub or-neither : (a b : Bool) → a ≡ false → b ≡ false → (a || b) ≡ false
-or-neither a b p q = rw (p, q)
-
--- both of two, and not both
-pub and_both : (a b : Bool) → a ≡ true → b ≡ true → (a && b) ≡ true
-and_both a b p q = rw (p, q)
-
+-- not both of two
 pub and_left : (a b : Bool) → a ≡ false → (a && b) ≡ false
 and_left a b p = rw p
-
-pub and_right : (a b : Bool) → a ≡ true → b ≡ false → (a && b) ≡ false
-and_right a b p q = rw (p, q)
 
 -- each of two, where both hold
 pub and-true : (a b : Bool) → (a && b) ≡ true → (a ≡ true) × (b ≡ true)

@@ -3,9 +3,9 @@
 
 ghost use Rattle.std.specs.Prelude.{◌≡◌, true, false, cond, ◌&&◌, ◌||◌, ◌≤◌, min, eqb, T};
 ghost use Rattle.std.specs.Float.{binary32};
-ghost use Rattle.std.specs.Float.Ieee.{sub, rem, lt, le};
+ghost use Rattle.std.specs.Float.Ieee.{sub, lt, le};
 ghost use Rattle.float32.specs.Helpers.{zero_f, one_f};
-ghost use Rattle.steps.specs.Times.{end_at, run_in, run_of, times_run, times_local, ping_pong, local_in, local_time};
+ghost use Rattle.steps.specs.Times.{end_at, run_of, times_run, times_local, ping_pong, local_time};
 ghost use Rattle.steps.specs.Rows.{row, stepped, seek_row, untouched, reset_step, kind_of, synced, ticked, reset_first, ruled};
 ghost use Rattle.steps.specs.Cases.{all_hold, table};
 
@@ -23,6 +23,7 @@ pub struct Entry {
 }
 
 // An entry's row: the number of resets, plus 4 for an update by the amount, plus 8 for a seek to the place.
+// A number, since paper 01 has it as a byte of a lent slice.
 #[derive(Clone, Copy)]
 pub struct Row {
     pub kind: u8,
@@ -46,60 +47,59 @@ pub enum Rule {
     Restart(f32),
 }
 
-// Where an entry ends.
-pub fn end_at(e: Entry) -> f32
-    ensures { result ≡ end_at e }
-{
-    e.start + e.duration
+impl Entry {
+    // Where it ends.
+    pub fn end(self) -> f32
+        ensures { result ≡ end_at self }
+    {
+        self.start + self.duration
+    }
 }
 
+// The row of no step.
+const NO_ROW: Row = Row {
+    kind: 0,
+    amount: 0.0,
+    place: 0.0,
+};
+
 // The run of n passes, or of one where n is 0.
+#[tactic(auto, unfolding(crate::specs::Times::times_run))]
 pub fn times_run(base: f32, n: u32) -> f32
     ensures { result ≡ times_run base n }
 {
     base * float32::from_u32(tween::loop_mode::passes(n))
 }
 
-// The run by the mode, where the base is not 0.
-fn run_in(mode: Loop, base: f32) -> f32
-    ensures { result ≡ run_in mode base }
-{
-    match mode {
-        Loop::Once => base,
-        Loop::Times(n) => times_run(base, n),
-        Loop::Forever => float32::infinity(),
-        Loop::PingPong => float32::infinity(),
-        Loop::PingPongTimes(n) => times_run(base, n),
-    }
-}
-
 // The run of a timeline with this base: `playback_duration`.
+#[tactic(auto, unfolding(crate::specs::Times::run_of))]
 pub fn run_of(mode: Loop, base: f32) -> f32
     ensures { result ≡ run_of mode base }
 {
-    if base == 0.0 { 0.0 } else { run_in(mode, base) }
+    if base == 0.0 {
+        return 0.0;
+    }
+    match mode {
+        Loop::Once => base,
+        Loop::Times(n) | Loop::PingPongTimes(n) => times_run(base, n),
+        Loop::Forever | Loop::PingPong => float32::infinity(),
+    }
 }
 
 // The local time in Times: at the end of the run, the base.
+#[tactic(auto, unfolding(crate::specs::Times::times_local))]
 fn times_local(base: f32, n: u32, elapsed: f32) -> f32
     ensures { result ≡ times_local base n elapsed }
 {
-    let total = times_run(base, n);
-    if elapsed >= total {
+    if elapsed >= times_run(base, n) {
         base
     } else {
         float32::remainder(elapsed, base)
     }
 }
 
-// The local time in Forever.
-fn remainder(base: f32, elapsed: f32) -> f32
-    ensures { result ≡ rem binary32 elapsed base }
-{
-    float32::remainder(elapsed, base)
-}
-
 // The local time there and back.
+#[tactic(auto, unfolding(crate::specs::Times::ping_pong))]
 fn ping_pong(base: f32, elapsed: f32) -> f32
     ensures { result ≡ ping_pong base elapsed }
 {
@@ -111,54 +111,40 @@ fn ping_pong(base: f32, elapsed: f32) -> f32
     }
 }
 
-// The local time by the mode, where the base is not 0.
-fn local_in(mode: Loop, base: f32, elapsed: f32) -> f32
-    ensures { result ≡ local_in mode base elapsed }
-{
-    match mode {
-        Loop::Once => float32::min(elapsed, base),
-        Loop::Times(n) => times_local(base, n, elapsed),
-        Loop::Forever => remainder(base, elapsed),
-        Loop::PingPong => ping_pong(base, elapsed),
-        Loop::PingPongTimes(_) => ping_pong(base, elapsed),
-    }
-}
-
 // `local_time_for_elapsed`
+#[tactic(auto, unfolding(crate::specs::Times::local_time))]
 pub fn local_time(mode: Loop, base: f32, elapsed: f32) -> f32
     ensures { result ≡ local_time mode base elapsed }
 {
     if base == 0.0 {
-        0.0
-    } else {
-        local_in(mode, base, elapsed)
+        return 0.0;
+    }
+    match mode {
+        Loop::Once => float32::min(elapsed, base),
+        Loop::Times(n) => times_local(base, n, elapsed),
+        Loop::Forever => float32::remainder(elapsed, base),
+        Loop::PingPong | Loop::PingPongTimes(_) => ping_pong(base, elapsed),
     }
 }
 
 // Nothing is sent, and the mark stays.
+#[tactic(auto, unfolding(crate::specs::Rows::untouched))]
 fn keep_entry(e: Entry) -> Stepped
     ensures { result ≡ untouched e }
 {
     Stepped {
-        row: Row {
-            kind: 0,
-            amount: 0.0,
-            place: 0.0,
-        },
+        row: NO_ROW,
         done: e.done,
     }
 }
 
 // One reset, and no mark.
+#[tactic(auto, unfolding(crate::specs::Rows::reset_step))]
 fn reset_entry() -> Stepped
     ensures { result ≡ reset_step }
 {
     Stepped {
-        row: Row {
-            kind: 1,
-            amount: 0.0,
-            place: 0.0,
-        },
+        row: Row { kind: 1, ..NO_ROW },
         done: false,
     }
 }
@@ -170,148 +156,88 @@ fn end_entry() -> Stepped
     Stepped {
         row: Row {
             kind: 8,
-            amount: 0.0,
             place: 1.0,
+            ..NO_ROW
         },
         done: true,
     }
 }
 
 // `sync_to_elapsed` for one entry at the local time t.
+#[tactic(auto, unfolding(crate::specs::Rows::synced))]
 pub fn sync_entry(t: f32, e: Entry) -> Stepped
     ensures { result ≡ synced t e }
 {
-    let start = e.start;
-    let end = start + e.duration;
-    if t <= start {
+    if t <= e.start {
         return reset_entry();
     }
-    if t >= end {
-        return end_entry();
-    }
-    let duration = e.duration;
-    if duration == 0.0 {
+    if t >= e.end() || e.duration == 0.0 {
         return end_entry();
     }
     Stepped {
         row: Row {
             kind: 8,
-            amount: 0.0,
-            place: (t - start) / duration,
+            place: (t - e.start) / e.duration,
+            ..NO_ROW
         },
         done: false,
     }
-}
-
-// The weight, where it is set.
-fn bit(set: bool, weight: u8) -> u8
-    ensures { (result ≡ cond set weight 0) × (result ≤ weight) }
-{
-    if set { weight } else { 0 }
 }
 
 // The number of resets (here 0 or 1), plus 4 for an update, plus 8 for a seek.
 fn kind_of(reset: bool, update: bool, seek: bool) -> u8
     ensures { result ≡ kind_of reset update seek }
 {
-    bit(reset, 1) + bit(update, 4) + bit(seek, 8)
-}
-
-// x or y.
-fn pick(choice: bool, x: f32, y: f32) -> f32
-    ensures { result ≡ cond choice x y }
-{
-    if choice { x } else { y }
-}
-
-// `a || b`
-pub fn either(a: bool, b: bool) -> bool
-    ensures { result ≡ (a || b) }
-{
-    if a { true } else { b }
-}
-
-// `a && b`
-pub fn both(a: bool, b: bool) -> bool
-    ensures { result ≡ (a && b) }
-{
-    if a { b } else { false }
-}
-
-// The lesser of two.
-pub fn least(a: usize, b: usize) -> usize
-    ensures { result ≡ min a b }
-{
-    if a < b { a } else { b }
-}
-
-// A row of a tick: what is not sent is 0.0.
-fn tick_row(reset: bool, update: bool, seek: bool, amount: f32, done: bool) -> Stepped
-    ensures { result ≡ stepped (row (kind_of reset update seek) (cond update amount zero_f) (cond seek one_f zero_f)) done }
-{
-    let kind = kind_of(reset, update, seek);
-    let sent = pick(update, amount, 0.0);
-    let place = pick(seek, 1.0, 0.0);
-    Stepped {
-        row: Row {
-            kind,
-            amount: sent,
-            place,
-        },
-        done,
-    }
-}
-
-// Whether a step to next ends an entry: at its start, where it has no length.
-fn ends_by(next: f32, instant: bool, start: f32, end: f32) -> bool
-    ensures { result ≡ cond instant (le start next) (le end next) }
-{
-    if instant { next >= start } else { next >= end }
+    u8::from(reset) + 4 * u8::from(update) + 8 * u8::from(seek)
 }
 
 // `tick_forward` for an entry that does not start after the step, test by test.
+#[tactic(auto, unfolding(crate::specs::Rows::ticked))]
 fn tick_begun(prev: f32, next: f32, e: Entry, reply: u8) -> Stepped
     requires { lt next e.start ≡ false }
     ensures { result ≡ ticked prev next e reply }
 {
-    let start = e.start;
-    let duration = e.duration;
-    let end = start + duration;
-    let entered = both(prev <= start, next >= start);
-    let instant = duration == 0.0;
-    let from = float32::max(prev, start);
+    let end = e.end();
+    let entered = prev <= e.start && next >= e.start;
+    let instant = e.duration == 0.0;
+    let from = float32::max(prev, e.start);
     let to = float32::min(next, end);
-    let updates = both(!instant, from < to);
-    let stopped = both(updates, reply == 0);
-    let ends = ends_by(next, instant, start, end);
-    let kept = both(!entered, e.done);
-    let done = either(ends, either(stopped, kept));
-    tick_row(entered, updates, ends, to - from, done)
+    let updates = !instant && from < to;
+    let stopped = updates && reply == 0;
+    let ends = if instant {
+        next >= e.start
+    } else {
+        next >= end
+    };
+    let kept = !entered && e.done;
+    Stepped {
+        row: Row {
+            kind: kind_of(entered, updates, ends),
+            amount: if updates { to - from } else { 0.0 },
+            place: if ends { 1.0 } else { 0.0 },
+        },
+        done: ends || stopped || kept,
+    }
 }
 
 // Whether a step forward lies inside the run of an entry: after its start and before its end. Then the entry has a length.
 fn runs_inside(prev: f32, next: f32, start: f32, end: f32) -> bool
     ensures { result ≡ (lt start prev && (lt next end && lt prev next)) }
 {
-    if start < prev {
-        if next < end { prev < next } else { false }
-    } else {
-        false
-    }
+    start < prev && next < end && prev < next
 }
 
 // The entry is updated by the whole step.
 fn tick_inside(prev: f32, next: f32, e: Entry, reply: u8) -> Stepped
     ensures { result ≡ stepped (row 4 (sub binary32 next prev) zero_f) (eqb reply 0 || e.done) }
 {
-    let done = either(reply == 0, e.done);
     Stepped {
         row: Row {
             kind: 4,
             amount: next - prev,
-            place: 0.0,
+            ..NO_ROW
         },
-        done,
+        done: reply == 0 || e.done,
     }
 }
 
@@ -319,46 +245,36 @@ fn tick_inside(prev: f32, next: f32, e: Entry, reply: u8) -> Stepped
 fn lies_behind(prev: f32, next: f32, start: f32, end: f32) -> bool
     ensures { result ≡ (lt start prev && (le end prev && lt end next)) }
 {
-    if start < prev {
-        if end <= prev { end < next } else { false }
-    } else {
-        false
-    }
+    start < prev && end <= prev && end < next
 }
 
 // `tick_forward` for one entry, with its leaf's reply: 0 stopped, 1 running. Most steps lie inside the run or behind it, so these are
 // told first.
+#[tactic(auto, unfolding(crate::specs::Rows::ticked))]
 pub fn tick_entry(prev: f32, next: f32, e: Entry, reply: u8) -> Stepped
     ensures { result ≡ ticked prev next e reply }
 {
-    let start = e.start;
-    let end = start + e.duration;
-    if next < start {
+    let end = e.end();
+    if next < e.start {
         return reset_entry();
     }
-    if runs_inside(prev, next, start, end) {
+    if runs_inside(prev, next, e.start, end) {
         return tick_inside(prev, next, e, reply);
     }
-    if lies_behind(prev, next, start, end) {
+    if lies_behind(prev, next, e.start, end) {
         return end_entry();
     }
     tick_begun(prev, next, e, reply)
 }
 
 // `reset`, and then synchronised.
+#[tactic(auto, using(crate::proofs::KindBound::synced_kind), unfolding(crate::specs::Rows::reset_first))]
 fn restart_entry(t: f32, e: Entry) -> Stepped
     ensures { result ≡ reset_first (synced t e) }
 {
-    let s = sync_entry(t, e);
-    let row = s.row;
-    Stepped {
-        row: Row {
-            kind: row.kind + 1,
-            amount: row.amount,
-            place: row.place,
-        },
-        done: s.done,
-    }
+    let mut s = sync_entry(t, e);
+    s.row.kind += 1;
+    s
 }
 
 // What the rule sends to an entry.

@@ -4,48 +4,31 @@
 ghost use Rattle.std.specs.Prelude.{◌≡◌, ◌≤◌, length, take};
 
 use std::io::Read;
-use steps::least;
 
-// How many bytes are there, and whether the last read failed.
+// How many bytes are there, and whether the last read failed. Not a Result: what was read before a failed read counts.
 #[derive(Clone, Copy)]
 pub struct Got {
     pub count: usize,
     pub failed: bool,
 }
 
-// Reads once into a slice.
-pub fn read<R: Read>(reader: &mut R, bytes: &mut [u8]) -> Got
+// Reads into a slice, until it is full, the input ends, or a read fails.
+pub fn read_full<R: Read>(reader: &mut R, bytes: &mut [u8]) -> Got
     ensures { result.count ≤ length bytes.new }
 {
-    let len = bytes.len();
-    match reader.read(bytes) {
-        Ok(count) => Got {
-            count: least(count, len),
-            failed: false,
-        },
-        Err(_) => Got {
-            count: 0,
-            failed: true,
-        },
-    }
-}
-
-// Reads into a slice, from one place to another, until all is there, the input ends, or a read fails.
-pub fn read_to<R: Read>(reader: &mut R, bytes: &mut [u8], from: usize, to: usize) -> Got
-    ensures { result.count ≤ length bytes.new }
-{
-    let end = least(to, bytes.len());
-    let mut count = least(from, end);
-    while count < end {
-        let got = read(reader, &mut bytes[count..end]);
-        let more = least(got.count, end - count);
-        if more == 0 {
-            return Got {
-                count,
-                failed: got.failed,
-            };
+    let mut count = 0;
+    // A read takes as much as it likes, so no `for` counts the turns.
+    while count < bytes.len() {
+        match reader.read(&mut bytes[count..]) {
+            Ok(0) => break,
+            Ok(more) => count += more,
+            Err(_) => {
+                return Got {
+                    count,
+                    failed: true,
+                };
+            }
         }
-        count += more;
     }
     Got {
         count,
@@ -57,6 +40,5 @@ pub fn read_to<R: Read>(reader: &mut R, bytes: &mut [u8], from: usize, to: usize
 pub fn front(bytes: &[u8], len: usize) -> &[u8]
     ensures { result.now ≡ take len bytes.now }
 {
-    let n = least(len, bytes.len());
-    &bytes[..n]
+    &bytes[..len.min(bytes.len())]
 }

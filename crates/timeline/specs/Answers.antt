@@ -1,47 +1,72 @@
--- What a call on a timeline answers, and what it leaves in the slices lent to it, by its outcome. A contract cites `Moves`, `Updates` or `Shows`.
-use Rattle.std.specs.Prelude.{ℕ, ◌≡◌, List, length, Float}
+-- What a call on a timeline answers, and what it leaves in the slices lent to it, by its outcome. A contract cites `Adds`, `Moves`, `Updates` or `Shows`.
+use Rattle.std.specs.Prelude.{ℕ, ◌≡◌, List, length, Float, Result, Ok, Err}
+use Rattle.refusal.specs.declared.Refusal.{Refusal}
+use Rattle.refusal.specs.Refusal.{number, number_in, held_or}
 use Rattle.steps.specs.Slices.{over}
 use Rattle.track.specs.Tracks.{Sent}
 use Rattle.track.specs.Calls.{Room, TrackCall, Update, Preview}
-use Rattle.track.specs.Answers.{Lent, LentMut, lent_room}
+use Rattle.track.specs.Answers.{Lent, LentMut, LentRows, SameSlices, Answer, refused_by, lent_room}
 use Rattle.timeline.specs.declared.timeline.Timeline.{Timeline}
-use Rattle.timeline.specs.declared.timeline.Moved.{Moved}
 use Rattle.timeline.specs.declared.timeline.Updated.{Updated}
-use Rattle.timeline.specs.Calls.{Call, On, Out, step, moved_by, updated_by}
+use Rattle.timeline.specs.Calls.{Call, On, Out, step}
 
--- play, reset and the seeks with the outcome o: the answer r, and the row slices before and after
-pub record MoveAnswer (o : Out) (r : Moved) (k₀ k : List ℕ) (a₀ a p₀ p : List Float) : Type 0 where
-  pub answer : r ≡ moved_by o
+-- The call with the outcome o, made on the timeline t, answers r: its refusal, or the timeline that it leaves. "panel and builder are
+-- unchanged": a refused call leaves t.
+pub record Adds (o : Out) (t : Timeline) (r : Result Timeline Refusal) : Type 0 where
+  pub refusal : number_in r ≡ o.refusal
+  pub timeline : held_or t r ≡ o.timeline
+
+-- play, reset and the seeks, likewise, and the row slices before and after
+pub record MoveAnswer (o : Out) (t : Timeline) (r : Result Timeline Refusal) (k₀ k : List ℕ) (a₀ a p₀ p : List Float) : Type 0 where
+  pub refusal : number_in r ≡ o.refusal
+  pub timeline : held_or t r ≡ o.timeline
   pub rows : Sent o.rows k₀ k a₀ a p₀ p
 
--- `update` with the outcome o: the answer r, the list and the row slices before and after
-pub record UpdateAnswer (o : Out) (r : Updated) (l₀ l k₀ k : List ℕ) (a₀ a p₀ p : List Float) : Type 0 where
-  pub answer : r ≡ updated_by o
+-- what `update` answers beside the timeline, and the timeline that it leaves
+abbrev pub answer_in : Result Updated Refusal → Answer
+answer_in (Ok u) = record { refusal = 0; running = u.running; completed = u.completed; listed = u.listed }
+answer_in (Err r) = refused_by (number r)
+
+abbrev pub timeline_of : Timeline → Result Updated Refusal → Timeline
+timeline_of t (Ok u) = u.timeline
+timeline_of t (Err r) = t
+
+-- the answer of an update with the outcome o
+abbrev pub answer_by : Out → Answer
+answer_by o = record { refusal = o.refusal; running = o.running; completed = o.completed; listed = length o.listed }
+
+-- `update` with the outcome o, made on t: the answer r, the list and the row slices before and after
+pub record UpdateAnswer (o : Out) (t : Timeline) (r : Result Updated Refusal) (l₀ l k₀ k : List ℕ) (a₀ a p₀ p : List Float) : Type 0 where
+  pub answer : answer_in r ≡ answer_by o
+  pub timeline : timeline_of t r ≡ o.timeline
   pub list : l ≡ over o.listed l₀
   pub rows : Sent o.rows k₀ k a₀ a p₀ p
 
--- the preview with the outcome o: the refusal n, and the row slices before and after
-pub record ShowAnswer (o : Out) (n : ℕ) (k₀ k : List ℕ) (a₀ a p₀ p : List Float) : Type 0 where
-  pub refusal : n ≡ o.refusal
+-- the preview with the outcome o: the answer r, and the row slices before and after
+pub record ShowAnswer (o : Out) (r : Result Unit Refusal) (k₀ k : List ℕ) (a₀ a p₀ p : List Float) : Type 0 where
+  pub refusal : number_in r ≡ o.refusal
   pub rows : Sent o.rows k₀ k a₀ a p₀ p
 
 -- the call, with the room of the lent slices, answers r
-abbrev pub MovesOn : Timeline → (Room → Call) → Moved → LentMut ℕ → LentMut Float → LentMut Float → Type 0
-MovesOn t call r kinds amounts places =
-    MoveAnswer (step t (call (lent_room kinds amounts places))) r
-    kinds.entry.now kinds.exit.now amounts.entry.now amounts.exit.now places.entry.now places.exit.now
+abbrev pub MovesOn : Timeline → (Room → Call) → Result Timeline Refusal → LentRows → Type 0
+MovesOn t call r rows =
+    SameSlices rows.entry.now rows.exit.now
+    × MoveAnswer (step t (call (lent_room rows))) t r
+    rows.entry.now.kinds.now rows.exit.now.kinds.now rows.entry.now.amounts.now rows.exit.now.amounts.now rows.entry.now.places.now rows.exit.now.places.now
 
-abbrev pub Moves : Timeline → (Room → TrackCall) → Moved → LentMut ℕ → LentMut Float → LentMut Float → Type 0
+abbrev pub Moves : Timeline → (Room → TrackCall) → Result Timeline Refusal → LentRows → Type 0
 Moves t call = MovesOn t (λ (room : Room). On (call room))
 
 -- the update by dt answers r
-abbrev pub Updates : Timeline → Float → Lent ℕ → Updated → LentMut ℕ → LentMut ℕ → LentMut Float → LentMut Float → Type 0
-Updates t dt replies r list kinds amounts places =
-    UpdateAnswer (step t (On (Update dt replies.entry.now (length list.entry.now) (lent_room kinds amounts places)))) r
-    list.entry.now list.exit.now kinds.entry.now kinds.exit.now amounts.entry.now amounts.exit.now places.entry.now places.exit.now
+abbrev pub Updates : Timeline → Float → Lent ℕ → Result Updated Refusal → LentMut ℕ → LentRows → Type 0
+Updates t dt replies r list rows =
+    SameSlices rows.entry.now rows.exit.now
+    × UpdateAnswer (step t (On (Update dt replies.entry.now (length list.entry.now) (lent_room rows)))) t r
+    list.entry.now list.exit.now rows.entry.now.kinds.now rows.exit.now.kinds.now rows.entry.now.amounts.now rows.exit.now.amounts.now rows.entry.now.places.now rows.exit.now.places.now
 
--- the preview of an update by dt refuses by n
-abbrev pub Shows : Timeline → Float → ℕ → LentMut ℕ → LentMut Float → LentMut Float → Type 0
-Shows t dt n kinds amounts places =
-    ShowAnswer (step t (On (Preview dt (lent_room kinds amounts places)))) n
-    kinds.entry.now kinds.exit.now amounts.entry.now amounts.exit.now places.entry.now places.exit.now
+-- the preview of an update by dt answers r
+abbrev pub Shows : Timeline → Float → Result Unit Refusal → LentRows → Type 0
+Shows t dt r rows =
+    SameSlices rows.entry.now rows.exit.now
+    × ShowAnswer (step t (On (Preview dt (lent_room rows)))) r
+    rows.entry.now.kinds.now rows.exit.now.kinds.now rows.entry.now.amounts.now rows.exit.now.amounts.now rows.entry.now.places.now rows.exit.now.places.now

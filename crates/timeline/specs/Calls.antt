@@ -8,9 +8,6 @@ use Rattle.track.specs.declared.track.Track.{Track}
 use Rattle.track.specs.Calls.{TrackCall, TrackOut, track_step}
 use Rattle.timeline.specs.declared.timeline.At.{At}
 use Rattle.timeline.specs.declared.timeline.Timeline.{Timeline}
-use Rattle.timeline.specs.declared.timeline.Added.{Added}
-use Rattle.timeline.specs.declared.timeline.Moved.{Moved}
-use Rattle.timeline.specs.declared.timeline.Updated.{Updated}
 use Rattle.timeline.specs.Placements.{resolve_start, named_start, grown}
 
 -- a call on a timeline, with its arguments: the three that add an entry (label, placement, duration), and those on what plays
@@ -60,14 +57,3 @@ step t (On call) = on_track t (track_step t.track call)
 unfoldable pub after : Timeline → List Call → Timeline
 after t [] = t
 after t (c ∷ cs) = after (step t c).timeline cs
-
--- the answers of the calls
-abbrev pub added_by : Out → Added
-added_by o = record { refusal = o.refusal; timeline = o.timeline }
-
-abbrev pub moved_by : Out → Moved
-moved_by o = record { refusal = o.refusal; timeline = o.timeline }
-
-abbrev pub updated_by : Out → Updated
-updated_by o =
-    record { refusal = o.refusal; running = o.running; completed = o.completed; listed = length o.listed; timeline = o.timeline }

@@ -1,5 +1,5 @@
 -- What `introspect` reports. Definitions only.
-use Rattle.std.specs.Prelude.{cond, Float}
+use Rattle.std.specs.Prelude.{cond, Float, Option, Some, None}
 use Rattle.float32.specs.Helpers.{zero_f, one_f, max_f, clamp_f, finite_f}
 use Rattle.clock.specs.declared.TimelineState.{TimelineState}
 use Rattle.clock.specs.declared.TimelineState.TheVariants.{Idle, Playing, Paused, Completed}
@@ -8,14 +8,12 @@ use Rattle.timeline.specs.declared.introspection.AnimationKind.{AnimationKind}
 use Rattle.timeline.specs.declared.introspection.AnimationKind.TheVariants.{Timeline as TimelineKind}
 use Rattle.timeline.specs.declared.introspection.PlaybackState.{PlaybackState}
 use Rattle.timeline.specs.declared.introspection.PlaybackState.TheVariants.{Idle as IdleState, Playing as PlayingState, Paused as PausedState, Complete}
-use Rattle.timeline.specs.declared.introspection.Duration.{Duration}
-use Rattle.timeline.specs.declared.introspection.Duration.TheVariants.{Finite, Unbounded}
 use Rattle.timeline.specs.declared.introspection.AnimationIntrospection.{AnimationIntrospection}
 use Rattle.timeline.specs.declared.timeline.Timeline.{Timeline}
 
 -- `duration.filter(|value| value.is_finite()).map(|value| value.max(0.0))`
-unfoldable pub known_duration : Float → Duration
-known_duration secs = cond (finite_f secs) (Finite (max_f secs zero_f)) Unbounded
+unfoldable pub known_duration : Float → Option Float
+known_duration secs = cond (finite_f secs) (Some (max_f secs zero_f)) None
 
 -- the coarse state
 abbrev pub playback_state : TimelineState → PlaybackState

@@ -1,12 +1,11 @@
 -- Where an entry starts, and a timeline with one entry more. Definitions only.
-use Rattle.std.specs.Prelude.{ℕ, ◌+◌, false, cond, List, [], take, get_or, set, replicate, Float}
+use Rattle.std.specs.Prelude.{ℕ, ◌+◌, false, cond, List, [], take, get_or, set, replicate, Float, Option}
 use Rattle.std.specs.Float.{binary32}
 use Rattle.std.specs.Float.Ieee.{add}
 use Rattle.float32.specs.Helpers.{zero_f, max_f}
 use Rattle.steps.specs.declared.Entry.{Entry}
 use Rattle.steps.specs.Times.{max_entries}
 use Rattle.label.specs.declared.Label.{Label}
-use Rattle.label.specs.declared.Found.{Found}
 use Rattle.label.specs.Label.{is_found, entry_found, with_text, label_of, first_with, first_like}
 use Rattle.track.specs.declared.track.Track.{Track}
 use Rattle.track.specs.Tracks.{empty_track, live, track_base, blank}
@@ -27,7 +26,7 @@ abbrev pub live_labels : Timeline → List Label
 live_labels t = take t.track.count t.labels
 
 -- the start of the entry that was found; "not found, the base"
-abbrev pub start_found : Timeline → Found → Float
+abbrev pub start_found : Timeline → Option ℕ → Float
 start_found t f = cond (is_found f) (get_or (live t.track) (entry_found f) blank).start (track_base t.track)
 
 -- "`Label`: start of the first entry with that label", by the label's bytes

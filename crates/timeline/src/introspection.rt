@@ -5,14 +5,14 @@ ghost use Rattle.timeline.specs.Introspections.{known_duration, playback_state, 
 use clock::TimelineState;
 
 // What is reported of.
-#[derive(Clone, Copy)]
+#[derive(Clone, Copy, Debug, PartialEq, Eq)]
 pub enum AnimationKind {
     Timeline,
     Group,
 }
 
 // The coarse playback state.
-#[derive(Clone, Copy)]
+#[derive(Clone, Copy, Debug, PartialEq, Eq)]
 pub enum PlaybackState {
     Idle,
     Playing,
@@ -20,20 +20,13 @@ pub enum PlaybackState {
     Complete,
 }
 
-// The duration in seconds, if there is a finite one.
-#[derive(Clone, Copy)]
-pub enum Duration {
-    Finite(f32),
-    Unbounded,
-}
-
-// What is reported: of what, how far it has come, the seconds so far, how long it is, and its state.
+// What is reported: of what, how far it has come, the seconds so far, how long it is if that is finite, and its state.
 #[derive(Clone, Copy)]
 pub struct AnimationIntrospection {
     pub kind: AnimationKind,
     pub progress: f32,
     pub elapsed: f32,
-    pub duration: Duration,
+    pub duration: Option<f32>,
     pub state: PlaybackState,
 }
 
@@ -50,13 +43,13 @@ pub fn playback_state(state: TimelineState) -> PlaybackState
 }
 
 // The duration where it is finite.
-fn known_duration(secs: f32) -> Duration
+fn known_duration(secs: f32) -> Option<f32>
     ensures { result ≡ known_duration secs }
 {
     if float32::is_finite(secs) {
-        Duration::Finite(float32::max(secs, 0.0))
+        Some(float32::max(secs, 0.0))
     } else {
-        Duration::Unbounded
+        None
     }
 }
 
@@ -71,14 +64,11 @@ impl AnimationIntrospection {
     ) -> AnimationIntrospection
         ensures { result ≡ introspection kind progress elapsed duration state }
     {
-        let share = float32::clamp(progress, 0.0, 1.0);
-        let secs = float32::max(elapsed, 0.0);
-        let known = known_duration(duration);
         AnimationIntrospection {
             kind,
-            progress: share,
-            elapsed: secs,
-            duration: known,
+            progress: float32::clamp(progress, 0.0, 1.0),
+            elapsed: float32::max(elapsed, 0.0),
+            duration: known_duration(duration),
             state,
         }
     }

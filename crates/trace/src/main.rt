@@ -11,123 +11,71 @@ mod builders;
 mod introspect;
 mod reverse;
 
-use case_io::input;
-use case_io::text::{BUFFER, Sink};
-use std::io::{Stdin, Stdout};
+use case_io::input::each_record;
+use case_io::text::Sink;
 use trace_calls::calls;
 use trace_moves::moves;
+use trace_places::in_place::InPlace;
 use trace_places::run::Run;
-use trace_read::{Cursor, ROWS};
+use trace_read::Cursor;
 
 // The longest script.
 const SCRIPT: usize = 65_536;
 
 fn main(rt: HostRuntime) {
-    let mut stdin = rt.stdin();
-    let form = input::read_form(&mut stdin);
-    if form.known {
-        scripts(&mut stdin, rt.stdout(), form.text);
-    }
+    let mut room = [0u8; SCRIPT];
+    each_record(&rt, b"script", &mut room, |sink, script| {
+        let made = make_all(sink, script.any());
+        if made.is_none() || script.whole().is_none() {
+            sink.bytes(b"cut\n");
+        }
+    });
 }
 
-// A proved loop has to end, and nothing says that the input does: so it ends at a number of scripts that no run reaches.
-fn scripts(stdin: &mut Stdin, stdout: Stdout, text: bool) {
-    let mut script = [0u8; SCRIPT];
-    let mut buffer = [0u8; BUFFER];
-    let mut number = 0;
-    while number < usize::MAX
-        && next_script(stdin, stdout, &mut script, &mut buffer, text, number + 1)
-    {
-        number += 1;
+// Makes the calls of a script, as far as they are not cut.
+fn make_all(sink: &mut Sink, script: &[u8]) -> Option<()> {
+    let mut cursor = Cursor::new(script);
+    let mut run = Run::new();
+    // A script has at most as many calls as bytes.
+    for i in 0..script.len() {
+        let Some(byte) = cursor.byte() else {
+            break;
+        };
+        run.number = i + 1;
+        run.byte = byte;
+        make(sink, &mut cursor, &mut run)?;
     }
+    Some(())
 }
 
-// Runs the next script, and says whether there may be more.
-fn next_script(
-    stdin: &mut Stdin,
-    stdout: Stdout,
-    script: &mut [u8],
-    buffer: &mut [u8; BUFFER],
-    text: bool,
-    number: usize,
-) -> bool {
-    let record = input::read_record(stdin, script);
-    if record.ended {
-        return false;
-    }
-    let s = Sink::begin(stdout, text, buffer, b"script", number);
-    let n = record.len;
-    let s = run(&script[..n], buffer, s, !record.whole);
-    s.end(&*buffer);
-    record.whole
-}
-
-// The calls of a script, of which the input may have ended too early.
-fn run(script: &[u8], buffer: &mut [u8; BUFFER], sink: Sink, short: bool) -> Sink {
-    let mut starts = [0.0f32; ROWS];
-    let mut durations = [0.0f32; ROWS];
-    let mut marks = [false; ROWS];
-    let mut r = Run::new(sink, &mut starts, &mut durations, &mut marks);
-    let mut i = 0;
-    while i < script.len() && more(r.cursor, script.len()) {
-        i += 1;
-        r = next(
-            script,
-            buffer,
-            &mut starts,
-            &mut durations,
-            &mut marks,
-            i,
-            r,
-        );
-    }
-    let c = r.cursor;
-    let s = r.sink;
-    if short || !c.whole {
-        return s.bytes(buffer, b"cut\n");
-    }
-    s
-}
-
-// Whether there is a call to make.
-fn more(c: Cursor, len: usize) -> bool {
-    c.whole && c.at < len
-}
-
-// Makes the next call: where it moves or steers what plays, by value and in place; another one by value, and the columns are laid
-// out anew where it left another timeline.
-fn next(
-    script: &[u8],
-    buffer: &mut [u8; BUFFER],
-    starts: &mut [f32; ROWS],
-    durations: &mut [f32; ROWS],
-    marks: &mut [bool; ROWS],
-    number: usize,
-    run: Run,
-) -> Run {
-    let cursor = run.cursor;
-    let read = cursor.byte(script);
-    let byte = read.value;
-    let r = run.at_call(number, byte, read);
-    match byte {
-        0 | 3 | 4 | 5 | 6 | 11 => moves::make(script, buffer, &*starts, &*durations, marks, r),
-        1 | 2 | 7 | 10 | 15 => calls::make(script, buffer, r),
-        12 => introspect::timeline(buffer, r),
-        13 => introspect::group(buffer, r),
+// Makes a call: where it moves or steers what plays, by value and in place; another one by value, and the columns are laid out anew
+// where it left another timeline.
+fn make(sink: &mut Sink, cursor: &mut Cursor<'_>, run: &mut Run) -> Option<()> {
+    match run.byte {
+        0 | 3 | 4 | 5 | 6 | 11 => moves::make(sink, cursor, run),
+        1 | 2 | 7 | 10 | 15 => calls::make(sink, cursor, run),
+        12 => {
+            introspect::timeline(sink, run);
+            Some(())
+        }
+        13 => {
+            introspect::group(sink, run);
+            Some(())
+        }
         _ => {
-            let left = build(script, buffer, r);
-            left.laid_out(starts, durations, marks)
+            build(sink, cursor, run)?;
+            run.place = InPlace::of(&run.timeline);
+            Some(())
         }
     }
 }
 
 // Calls that add entries or build a timeline, and a group's reverse; an unknown one is cut.
-fn build(script: &[u8], buffer: &mut [u8; BUFFER], r: Run) -> Run {
-    let byte = r.byte;
-    match byte {
-        14 => reverse::reversing(script, buffer, r),
-        16 | 17 | 18 | 19 => builders::building(script, buffer, r),
-        20 => builders::sequencing(script, buffer, r),
-        _ => calls::make(script, buffer, r),
+fn build(sink: &mut Sink, cursor: &mut Cursor<'_>, run: &mut Run) -> Option<()> {
+    match run.byte {
+        14 => reverse::reversing(sink, cursor, run),
+        16 | 17 | 18 | 19 => builders::building(sink, cursor, run),
+        20 => builders::sequencing(sink, cursor, run),
+        _ => calls::make(sink, cursor, run),
     }
 }

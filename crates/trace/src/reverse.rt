@@ -1,36 +1,15 @@
 // Call 14: the reverse of the group around the timeline.
-ghost use Rattle.std.specs.Prelude.{◌≤◌};
-
-use case_io::text::BUFFER;
+use case_io::text::Sink;
 use group::group::AnimationGroup;
-use trace_places::fresh::{AMOUNT, PLACE, fresh_bytes, fresh_floats};
+use trace_lines::lent::LentRows;
 use trace_places::run::Run;
-use trace_read::Room;
+use trace_read::Cursor;
 
-pub(crate) fn reversing(script: &[u8], buffer: &mut [u8; BUFFER], run: Run) -> Run {
-    let cursor = run.cursor;
-    let room = cursor.room(script);
-    let next = room.next;
-    if next.whole {
-        return reversed(buffer, run, room);
-    }
-    run.cut()
-}
-
-fn reversed(buffer: &mut [u8; BUFFER], run: Run, room: Room) -> Run
-    requires { (room.kinds ≤ 300) × (room.amounts ≤ 300) × (room.places ≤ 300) }
-{
-    let k = room.kinds;
-    let a = room.amounts;
-    let p = room.places;
-    let mut kinds = fresh_bytes();
-    let mut amounts = fresh_floats(AMOUNT);
-    let mut places = fresh_floats(PLACE);
+pub(crate) fn reversing(sink: &mut Sink, cursor: &mut Cursor<'_>, run: &mut Run) -> Option<()> {
+    let mut rows = LentRows::new(cursor.room()?);
     let group = AnimationGroup::from_timeline(run.timeline);
-    let m = group.reverse(&mut kinds[..k], &mut amounts[..a], &mut places[..p]);
-    let moved = m.group;
-    let t = moved.timeline();
-    let s = run.line(buffer, m.refusal, t);
-    let s = trace_lines::rows(s, buffer, &kinds, &amounts, &places, room);
-    run.after(room.next, s, t)
+    let answer = group.reverse(&mut rows.lend());
+    run.answered(sink, answer.map(|group| group.timeline()));
+    trace_lines::rows(sink, &rows);
+    Some(())
 }

@@ -1,200 +1,120 @@
 // The calls that steer a timeline or add to it: the operands are read, the call is made, and its lines are printed.
-use case_io::text::{BUFFER, Sink};
-use clock::Clock;
-use steps::{MAX_ENTRIES, least};
-use timeline::timeline::{Added, At, Timeline};
-use trace_places::in_place;
+use case_io::text::Sink;
+use refusal::{ACCEPTED, Refusal};
+use timeline::timeline::{At, Timeline};
 use trace_places::run::Run;
-use trace_read::{Cursor, Placement, Span};
-use track::track::Playhead;
+use trace_read::{Cursor, Placement};
 
-// Makes the call that the run is at; one that is none of these is cut.
-pub fn make(script: &[u8], buffer: &mut [u8; BUFFER], run: Run) -> Run {
-    let byte = run.byte;
-    match byte {
-        1 | 2 => steering(buffer, run),
-        7 => scaling(script, buffer, run),
-        8 | 9 => adding(script, buffer, run),
-        10 => looping(script, buffer, run),
-        15 => delaying(script, buffer, run),
-        _ => run.cut(),
+// Makes the call that the run is at; one that is none of these, or whose operands are cut, is not made.
+pub fn make(sink: &mut Sink, cursor: &mut Cursor<'_>, run: &mut Run) -> Option<()> {
+    match run.byte {
+        1 => pausing(run),
+        2 => resuming(run),
+        7 => scaling(run, cursor.float()?),
+        8 | 9 => return adding(sink, cursor, run),
+        10 => {
+            let mode = cursor.looping()?;
+            run.timeline = run.timeline.looping(mode);
+            run.place.head = run.place.head.looping(mode);
+        }
+        15 => return delaying(sink, cursor, run),
+        _ => return None,
     }
+    run.line(sink, ACCEPTED);
+    run.compare_clock(sink);
+    Some(())
 }
 
-// A call without a refusal and rows left this timeline by value, and this playhead in place.
-fn set(buffer: &mut [u8; BUFFER], run: Run, cursor: Cursor, t: Timeline, head: Playhead) -> Run {
-    let s = run.line(buffer, refusal::ACCEPTED, t);
-    let s = in_place::differs(s, buffer, in_place::same_clock(head, t));
-    run.after_both(cursor, s, t, head)
+// Calls of pause, resume and the scale with an odd number are made on a clock that is lent.
+fn lends(run: &Run) -> bool {
+    run.number % 2 == 1
 }
 
-// Calls 1 and 2: pause and resume.
-fn steering(buffer: &mut [u8; BUFFER], run: Run) -> Run {
-    let t = steered(run.byte, run.number, run.timeline);
-    set(buffer, run, run.cursor, t, steered_head(run.byte, run.head))
-}
-
-fn steered_head(byte: u32, head: Playhead) -> Playhead {
-    if byte == 1 {
-        head.pause()
+// Call 1: pause.
+fn pausing(run: &mut Run) {
+    if lends(run) {
+        lent_clock::pause(&mut run.timeline.track.clock);
     } else {
-        head.resume()
+        run.timeline = run.timeline.pause();
     }
+    run.place.head = run.place.head.pause();
 }
 
-fn steered(byte: u32, number: usize, t: Timeline) -> Timeline {
-    if lends(number) {
-        return steer_lent(byte, t);
+// Call 2: resume.
+fn resuming(run: &mut Run) {
+    if lends(run) {
+        lent_clock::resume(&mut run.timeline.track.clock);
+    } else {
+        run.timeline = run.timeline.resume();
     }
-    if byte == 1 { t.pause() } else { t.resume() }
-}
-
-// Pause, resume and the scale stand twice in the library: calls with an odd number are made on a clock that is lent.
-fn lends(number: usize) -> bool {
-    number % 2 == 1
-}
-
-fn steer_lent(byte: u32, t: Timeline) -> Timeline {
-    let track = t.track;
-    if byte == 1 {
-        return with_clock(t, lent_clock::lend_pause(track.clock));
-    }
-    with_clock(t, lent_clock::lend_resume(track.clock))
-}
-
-fn scaled(number: usize, t: Timeline, scale: f32) -> Timeline {
-    if lends(number) {
-        let track = t.track;
-        return with_clock(t, lent_clock::lend_set_time_scale(track.clock, scale));
-    }
-    t.set_time_scale(scale)
-}
-
-// The timeline, whose clock was lent and came back.
-fn with_clock(t: Timeline, clock: Clock) -> Timeline {
-    let mut track = t.track;
-    track.clock = clock;
-    let mut back = t;
-    back.track = track;
-    back
+    run.place.head = run.place.head.resume();
 }
 
 // Call 7: set_time_scale.
-fn scaling(script: &[u8], buffer: &mut [u8; BUFFER], run: Run) -> Run {
-    let cursor = run.cursor;
-    let scale = cursor.word(script);
-    if scale.whole {
-        let t = scaled(run.number, run.timeline, scale.float());
-        let head = run.head;
-        return set(buffer, run, scale, t, head.set_time_scale(scale.float()));
+fn scaling(run: &mut Run, scale: f32) {
+    if lends(run) {
+        lent_clock::set_time_scale(&mut run.timeline.track.clock, scale);
+    } else {
+        run.timeline = run.timeline.set_time_scale(scale);
     }
-    run.cut()
-}
-
-// Call 10: looping.
-fn looping(script: &[u8], buffer: &mut [u8; BUFFER], run: Run) -> Run {
-    let t = run.timeline;
-    let cursor = run.cursor;
-    let read = cursor.looping(script);
-    let mode = read.mode;
-    let next = read.next;
-    if next.whole {
-        let head = run.head;
-        return set(buffer, run, next, t.looping(mode), head.looping(mode));
-    }
-    run.cut()
+    run.place.head = run.place.head.set_time_scale(scale);
 }
 
 // Calls 8 and 9: add and add_boxed_with_duration.
-fn adding(script: &[u8], buffer: &mut [u8; BUFFER], run: Run) -> Run {
-    let cursor = run.cursor;
-    let label = cursor.label(script);
-    let after_label = label.next;
-    let place = after_label.placement(script);
-    let after_place = place.next;
-    let duration = after_place.word(script);
-    if duration.whole {
-        let made = add(
-            script,
-            run.byte,
-            run.timeline,
-            label,
-            place,
-            duration.float(),
-        );
-        let s = run.line(buffer, made.refusal, made.timeline);
-        let s = entries(s, buffer, made.timeline);
-        return run.after(duration, s, made.timeline);
-    }
-    run.cut()
+fn adding(sink: &mut Sink, cursor: &mut Cursor<'_>, run: &mut Run) -> Option<()> {
+    let label = cursor.label()?;
+    let placement = cursor.placement()?;
+    let duration = cursor.float()?;
+    let answer = add(run.byte, run.timeline, label, placement, duration);
+    run.answered(sink, answer);
+    trace_lines::entries(sink, &run.timeline);
+    Some(())
 }
 
 fn add(
-    script: &[u8],
-    byte: u32,
+    byte: u8,
     t: Timeline,
-    label: Span,
-    place: Placement,
+    label: &[u8],
+    placement: Placement<'_>,
     duration: f32,
-) -> Added {
-    let text = trace_read::bytes(script, label);
-    if place.kind == 3 {
-        let target = trace_read::bytes(script, place.target);
-        if byte == 8 {
-            return t.add_at_label(text, target, duration);
+) -> Result<Timeline, Refusal> {
+    let at = match placement {
+        Placement::Absolute(secs) => At::Absolute(secs),
+        Placement::Start => At::Start,
+        Placement::End => At::End,
+        Placement::Label(target) => {
+            if byte == 8 {
+                return t.add_at_label(label, target, duration);
+            }
+            At::Label(last_labeled(&t, target))
         }
-        return t.add_boxed_with_duration(text, At::Label(last_labeled(t, target)), duration);
-    }
-    let at = at_of(place.kind, place.secs);
+        Placement::Offset(secs) => At::Offset(secs),
+    };
     if byte == 8 {
-        return t.add(text, at, duration);
-    }
-    t.add_boxed_with_duration(text, at, duration)
-}
-
-// The placements that name no label, in their order.
-fn at_of(kind: u32, secs: f32) -> At {
-    match kind {
-        0 => At::Absolute(secs),
-        1 => At::Start,
-        2 => At::End,
-        _ => At::Offset(secs),
+        t.add(label, at, duration)
+    } else {
+        t.add_boxed_with_duration(label, at, duration)
     }
 }
 
 // The last entry with this label, or the count.
-fn last_labeled(t: Timeline, target: &[u8]) -> usize {
-    let n = least(t.entry_count(), MAX_ENTRIES);
-    let labels = t.labels;
-    let mut last = n;
-    let mut i = 0;
-    while i < n {
-        if label::has_text(labels[i], target) {
+fn last_labeled(t: &Timeline, target: &[u8]) -> usize {
+    let count = t.entry_count();
+    let mut last = count;
+    for (i, label) in t.labels.iter().take(count).enumerate() {
+        if label.has_text(target) {
             last = i;
         }
-        i += 1;
     }
     last
 }
 
-// The entries of a timeline.
-pub fn entries(sink: Sink, buffer: &mut [u8; BUFFER], t: Timeline) -> Sink {
-    let labels = t.labels;
-    trace_lines::entries(sink, buffer, t.track, labels)
-}
-
-// Call 15: delay.
-fn delaying(script: &[u8], buffer: &mut [u8; BUFFER], run: Run) -> Run {
-    let cursor = run.cursor;
-    let read = cursor.pattern(script);
-    let pattern = read.pattern;
-    let after_pattern = read.next;
-    let index = after_pattern.word(script);
-    if index.whole {
-        let found = pattern.delay(index.value);
-        let s = run.line(buffer, found.refusal, run.timeline);
-        let s = trace_lines::delay(s, buffer, found.delay);
-        return run.after(index, s, run.timeline);
-    }
-    run.cut()
+// Call 15: delay. A refused one shows 0.
+fn delaying(sink: &mut Sink, cursor: &mut Cursor<'_>, run: &mut Run) -> Option<()> {
+    let pattern = cursor.pattern()?;
+    let index = cursor.word()?;
+    let answer = pattern.delay(index);
+    run.line(sink, refusal::number_in(&answer));
+    trace_lines::delay(sink, answer.unwrap_or(0.0));
+    Some(())
 }

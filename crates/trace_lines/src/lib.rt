@@ -1,167 +1,114 @@
-// The lines that a call prints.
+// The lines that a call prints, and what it is lent, which some of them show.
 #![tactic(auto)]
+
+pub mod lent;
 
 use case_io::fields;
 use case_io::fields::digit;
-use case_io::text::{BUFFER, Sink};
-use digits::wide_usize;
+use case_io::text::Sink;
 use label::Label;
-use steps::{Entry, MAX_ENTRIES, least};
-use trace_read::{ITEMS, LIST, ROWS, Room};
-use track::track::Track;
+use lent::LentRows;
+use refusal::Refusal;
+use steps::Entry;
+use timeline::timeline::{Timeline, Updated};
 
 // `i call refusal state elapsed scale fired count base run progress marks`
-pub fn call(
-    sink: Sink,
-    buffer: &mut [u8; BUFFER],
-    number: usize,
-    byte: u32,
-    refusal: u8,
-    track: Track,
-) -> Sink {
-    let clock = track.clock;
-    let s = sink.decimal(buffer, number);
-    let s = s.number(buffer, b' ', byte as usize);
-    let s = s.number(buffer, b' ', refusal as usize);
-    let s = fields::clock(s, buffer, clock);
-    let s = s.number(buffer, b' ', track.entry_count());
-    let s = s.float(buffer, b' ', track.duration());
-    let s = s.float(buffer, b' ', track.playback_duration());
-    let s = s.float(buffer, b' ', track.progress());
-    let s = s.byte(buffer, b' ');
-    let s = marks(s, buffer, track);
-    s.byte(buffer, b'\n')
+pub fn call(sink: &mut Sink, number: usize, byte: u8, refusal: u8, t: &Timeline) {
+    sink.decimal(number);
+    sink.number(b' ', usize::from(byte));
+    sink.number(b' ', usize::from(refusal));
+    fields::clock(sink, t.track.clock);
+    sink.number(b' ', t.entry_count());
+    sink.float(b' ', t.duration());
+    sink.float(b' ', t.playback_duration());
+    sink.float(b' ', t.progress());
+    sink.byte(b' ');
+    marks(sink, t);
+    sink.byte(b'\n');
 }
 
 // 0 or 1 for each entry, or `-`.
-fn marks(sink: Sink, buffer: &mut [u8; BUFFER], track: Track) -> Sink {
-    let n = least(track.count, MAX_ENTRIES);
+fn marks(sink: &mut Sink, t: &Timeline) {
+    let n = t.entry_count();
     if n == 0 {
-        return sink.byte(buffer, b'-');
+        sink.byte(b'-');
     }
-    let entries = track.entries;
-    let mut s = sink;
-    let mut i = 0;
-    while i < n {
-        let e = entries[i];
-        s = s.byte(buffer, digit(e.done));
-        i += 1;
+    for e in t.track.entries.iter().take(n) {
+        sink.byte(digit(e.done));
     }
-    s
 }
 
-// `  rows` and each row below the longest of the three slices.
-pub fn rows(
-    sink: Sink,
-    buffer: &mut [u8; BUFFER],
-    kinds: &[u8; ROWS],
-    amounts: &[f32; ROWS],
-    places: &[f32; ROWS],
-    room: Room,
-) -> Sink {
-    let n = least(most(most(room.kinds, room.amounts), room.places), ROWS);
-    let mut s = sink.bytes(buffer, b"  rows");
-    let mut i = 0;
-    while i < n {
-        s = kind(s, buffer, i < room.kinds, kinds[i]);
-        s = part(s, buffer, i < room.amounts, amounts[i]);
-        s = part(s, buffer, i < room.places, places[i]);
-        i += 1;
+// `  rows` and each row below the longest of the three slices: ` kind:amount:place`, with `.` past a slice.
+pub fn rows(sink: &mut Sink, lent: &LentRows) {
+    let kinds = lent.kinds.slice();
+    let amounts = lent.amounts.slice();
+    let places = lent.places.slice();
+    sink.bytes(b"  rows");
+    for i in 0..kinds.len().max(amounts.len()).max(places.len()) {
+        match kinds.get(i) {
+            Some(kind) => sink.number(b' ', usize::from(*kind)),
+            None => sink.letter(b' ', b'.'),
+        }
+        part(sink, amounts.get(i));
+        part(sink, places.get(i));
     }
-    s.byte(buffer, b'\n')
+    sink.byte(b'\n');
 }
 
-fn most(a: usize, b: usize) -> usize {
-    if a < b { b } else { a }
+// `:amount` or `:place`
+fn part(sink: &mut Sink, x: Option<&f32>) {
+    match x {
+        Some(x) => sink.float(b':', *x),
+        None => sink.letter(b':', b'.'),
+    }
 }
 
-// ` kind`, or ` .` past the slice.
-fn kind(sink: Sink, buffer: &mut [u8; BUFFER], there: bool, kind: u8) -> Sink {
-    if there {
-        return sink.number(buffer, b' ', kind as usize);
+// `  update running completed listed` and each byte of the list. A refused update neither runs nor completes, and lists nothing.
+pub fn update(sink: &mut Sink, answer: &Result<Updated, Refusal>, list: &[u8]) {
+    let (running, completed, listed) = match answer {
+        Ok(u) => (u.running, u.completed, u.listed),
+        Err(_) => (false, false, 0),
+    };
+    sink.bytes(b"  update");
+    sink.letter(b' ', digit(running));
+    sink.letter(b' ', digit(completed));
+    sink.number(b' ', listed);
+    for number in list {
+        sink.number(b' ', usize::from(*number));
     }
-    sink.letter(buffer, b' ', b'.')
-}
-
-// `:amount` or `:place`, likewise.
-fn part(sink: Sink, buffer: &mut [u8; BUFFER], there: bool, x: f32) -> Sink {
-    if there {
-        return sink.float(buffer, b':', x);
-    }
-    sink.letter(buffer, b':', b'.')
-}
-
-// `  update running completed listed` and each byte of the list, of which len places were lent.
-pub fn update(
-    sink: Sink,
-    buffer: &mut [u8; BUFFER],
-    running: bool,
-    completed: bool,
-    listed: usize,
-    list: &[u8; LIST],
-    len: usize,
-) -> Sink {
-    let n = least(len, LIST);
-    let s = sink.bytes(buffer, b"  update");
-    let s = s.letter(buffer, b' ', digit(running));
-    let s = s.letter(buffer, b' ', digit(completed));
-    let mut s = s.number(buffer, b' ', listed);
-    let mut i = 0;
-    while i < n {
-        s = s.number(buffer, b' ', wide_usize(list[i]));
-        i += 1;
-    }
-    s.byte(buffer, b'\n')
+    sink.byte(b'\n');
 }
 
 // `  entries` and each entry.
-pub fn entries(
-    sink: Sink,
-    buffer: &mut [u8; BUFFER],
-    track: Track,
-    labels: [Label; MAX_ENTRIES],
-) -> Sink {
-    let n = least(track.count, MAX_ENTRIES);
-    let entries = track.entries;
-    let mut s = sink.bytes(buffer, b"  entries");
-    let mut i = 0;
-    while i < n {
-        s = entry(s, buffer, entries[i], labels[i]);
-        i += 1;
+pub fn entries(sink: &mut Sink, t: &Timeline) {
+    sink.bytes(b"  entries");
+    for (e, label) in t.track.entries.iter().zip(&t.labels).take(t.entry_count()) {
+        entry(sink, e, label);
     }
-    s.byte(buffer, b'\n')
+    sink.byte(b'\n');
 }
 
 // ` start:duration:label`
-fn entry(sink: Sink, buffer: &mut [u8; BUFFER], e: Entry, label: Label) -> Sink {
-    let s = sink.float(buffer, b' ', e.start);
-    let s = s.float(buffer, b':', e.duration);
-    let s = s.byte(buffer, b':');
-    fields::label(s, buffer, label)
+fn entry(sink: &mut Sink, e: &Entry, label: &Label) {
+    sink.float(b' ', e.start);
+    sink.float(b':', e.duration);
+    sink.byte(b':');
+    fields::label(sink, label);
 }
 
 // `  delay bits`
-pub fn delay(sink: Sink, buffer: &mut [u8; BUFFER], secs: f32) -> Sink {
-    let s = sink.bytes(buffer, b"  delay");
-    let s = s.float(buffer, b' ', secs);
-    s.byte(buffer, b'\n')
+pub fn delay(sink: &mut Sink, secs: f32) {
+    sink.bytes(b"  delay");
+    sink.float(b' ', secs);
+    sink.byte(b'\n');
 }
 
 // `  items` and the refusal and cursor of each.
-pub fn items(
-    sink: Sink,
-    buffer: &mut [u8; BUFFER],
-    refusals: [u8; ITEMS],
-    cursors: [f32; ITEMS],
-    len: usize,
-) -> Sink {
-    let n = least(len, ITEMS);
-    let mut s = sink.bytes(buffer, b"  items");
-    let mut i = 0;
-    while i < n {
-        s = s.number(buffer, b' ', wide_usize(refusals[i]));
-        s = s.float(buffer, b':', cursors[i]);
-        i += 1;
+pub fn items(sink: &mut Sink, items: &[(u8, f32)]) {
+    sink.bytes(b"  items");
+    for (refusal, cursor) in items {
+        sink.number(b' ', usize::from(*refusal));
+        sink.float(b':', *cursor);
     }
-    s.byte(buffer, b'\n')
+    sink.byte(b'\n');
 }

@@ -1,220 +1,161 @@
 // The calls on a playhead and three columns, in place, and whether they leave what the calls by value left. The columns have more
 // places than the timeline has entries.
-use crate::fresh::{AMOUNT, PLACE, fresh_bytes, fresh_floats, fresh_list};
-use crate::same::{same_bytes, same_clocks, same_floats, same_marks, same_queries};
-use case_io::text::{BUFFER, Sink};
-use clock::Clock;
+use completions::Spans;
 use player::engine;
-use steps::{both, least};
-use timeline::timeline::{Moved, Timeline, Updated};
-use trace_read::{LIST, ROWS, Room, Update};
+use refusal::Refusal;
+use timeline::timeline::{Timeline, Updated};
+use trace_lines::lent::same_float;
+use trace_read::ROWS;
+use track::rows::Rows;
 use track::track::{Playhead, Secs, Share};
 
-// What a call in place leaves, and whether the call by value left the same.
-#[derive(Clone, Copy)]
-pub struct Followed {
+// What stands in the columns behind the entries: no call may look at it. Such an entry would be done, begin before 0 and end late,
+// so that it would show in the base.
+const SPARE_START: f32 = -12345.0;
+
+const SPARE_DURATION: f32 = 1.0e30;
+
+// What plays in the columns.
+#[derive(Drop)]
+pub struct InPlace {
     pub head: Playhead,
-    pub same: bool,
+    starts: [f32; ROWS],
+    durations: [f32; ROWS],
+    marks: [bool; ROWS],
 }
 
-// `differs`, unless they are the same.
-pub fn differs(sink: Sink, buffer: &mut [u8; BUFFER], same: bool) -> Sink {
-    if same {
-        return sink;
-    }
-    sink.bytes(buffer, b"differs\n")
+// A call that moves what plays.
+#[derive(Clone, Copy)]
+pub enum Move {
+    Play,
+    Reset,
+    Seek(f32),
+    SeekAbs(f32),
+    Preview(f32),
 }
 
-// Calls 1, 2, 7 and 10: whether the playhead that they leave has the timeline's clock.
-pub fn same_clock(head: Playhead, t: Timeline) -> bool {
-    let track = t.track;
-    same_clocks(head.clock, track.clock)
-}
-
-// Calls 0, 3, 5, 6 and 11, which by value answered this and left these rows.
-pub fn moved(
-    byte: u32,
-    head: Playhead,
-    to: f32,
-    room: Room,
-    by_value: Moved,
-    kinds: &[u8; ROWS],
-    amounts: &[f32; ROWS],
-    places: &[f32; ROWS],
-    starts: &[f32; ROWS],
-    durations: &[f32; ROWS],
-    marks: &mut [bool; ROWS],
-) -> Followed {
-    let k = least(room.kinds, ROWS);
-    let a = least(room.amounts, ROWS);
-    let p = least(room.places, ROWS);
-    let mut k2 = fresh_bytes();
-    let mut a2 = fresh_floats(AMOUNT);
-    let mut p2 = fresh_floats(PLACE);
-    let m = move_by(
-        byte,
-        head,
-        to,
-        starts,
-        durations,
-        marks,
-        &mut k2[..k],
-        &mut a2[..a],
-        &mut p2[..p],
-    );
-    let rows = same_rows(kinds, amounts, places, &k2, &a2, &p2);
-    let same = both(rows, m.refusal == by_value.refusal);
-    follow(
-        head,
-        m.clock,
-        by_value.timeline,
-        starts,
-        durations,
-        &*marks,
-        same,
-    )
-}
-
-// The playhead with the clock that the call left, and whether clock, marks and what can be asked of it are the timeline's.
-fn follow(
-    head: Playhead,
-    clock: Clock,
-    t: Timeline,
-    starts: &[f32; ROWS],
-    durations: &[f32; ROWS],
-    marks: &[bool; ROWS],
-    same: bool,
-) -> Followed {
-    let track = t.track;
-    let next = head.with_clock(clock);
-    let left = both(same_clocks(clock, track.clock), same_marks(track, marks));
-    let asked = same_queries(next, track, starts, durations, marks);
-    Followed {
-        head: next,
-        same: both(same, both(left, asked)),
+impl Move {
+    // The call on a timeline by value.
+    pub fn by_value(self, t: Timeline, rows: &mut Rows<'_>) -> Result<Timeline, Refusal> {
+        match self {
+            Move::Play => t.play(rows),
+            Move::Reset => t.reset(rows),
+            Move::Seek(to) => t.seek(Share(to), rows),
+            Move::SeekAbs(to) => t.seek_abs(Secs(to), rows),
+            Move::Preview(dt) => {
+                t.preview(dt, rows)?;
+                Ok(t)
+            }
+        }
     }
 }
 
-fn same_rows(
-    kinds: &[u8; ROWS],
-    amounts: &[f32; ROWS],
-    places: &[f32; ROWS],
-    k2: &[u8; ROWS],
-    a2: &[f32; ROWS],
-    p2: &[f32; ROWS],
-) -> bool {
-    let floats = both(same_floats(amounts, a2), same_floats(places, p2));
-    both(same_bytes(kinds, k2), floats)
-}
-
-fn move_by(
-    byte: u32,
-    head: Playhead,
-    to: f32,
-    starts: &[f32],
-    durations: &[f32],
-    marks: &mut [bool],
-    kinds: &mut [u8],
-    amounts: &mut [f32],
-    places: &mut [f32],
-) -> engine::Moved {
-    match byte {
-        0 => engine::play(head, starts, durations, marks, kinds, amounts, places),
-        3 => engine::reset(head, starts, durations, marks, kinds, amounts, places),
-        5 => engine::seek(
+impl InPlace {
+    // A timeline, laid out in columns, with spare values behind its entries.
+    pub fn of(t: &Timeline) -> InPlace {
+        let mut starts = [SPARE_START; ROWS];
+        let mut durations = [SPARE_DURATION; ROWS];
+        let mut marks = [true; ROWS];
+        let head = t.track.lay_out(&mut starts, &mut durations, &mut marks);
+        InPlace {
             head,
-            Share(to),
             starts,
             durations,
             marks,
-            kinds,
-            amounts,
-            places,
-        ),
-        6 => engine::seek_abs(
-            head,
-            Secs(to),
-            starts,
-            durations,
-            marks,
-            kinds,
-            amounts,
-            places,
-        ),
-        _ => preview(head, to, starts, durations, marks, kinds, amounts, places),
+        }
+    }
+
+    // Where the entries start, and how long they are.
+    fn spans(&self) -> Spans<'_> {
+        Spans {
+            starts: &self.starts,
+            durations: &self.durations,
+        }
+    }
+
+    // A call that moves what plays.
+    pub fn make(&mut self, call: Move, rows: &mut Rows<'_>) -> Result<(), Refusal> {
+        let head = self.head;
+        let spans = Spans {
+            starts: &self.starts,
+            durations: &self.durations,
+        };
+        let marks = &mut self.marks;
+        let clock = match call {
+            Move::Play => engine::play(head, spans, marks, rows),
+            Move::Reset => engine::reset(head, spans, marks, rows),
+            Move::Seek(to) => engine::seek(head, Share(to), spans, marks, rows),
+            Move::SeekAbs(to) => engine::seek_abs(head, Secs(to), spans, marks, rows),
+            Move::Preview(dt) => {
+                return engine::preview(head, dt, spans, marks, rows);
+            }
+        };
+        self.head = head.with_clock(clock?);
+        Ok(())
+    }
+
+    // Call 4.
+    pub fn update(
+        &mut self,
+        dt: f32,
+        replies: &[u8],
+        list: &mut [u8],
+        rows: &mut Rows<'_>,
+    ) -> Result<engine::Updated, Refusal> {
+        let head = self.head;
+        let spans = Spans {
+            starts: &self.starts,
+            durations: &self.durations,
+        };
+        let answer = engine::update(head, dt, spans, &mut self.marks, replies, list, rows);
+        if let Ok(u) = answer {
+            self.head = head.with_clock(u.clock);
+        }
+        answer
+    }
+
+    // Whether the clock is the timeline's.
+    pub fn has_clock(&self, t: &Timeline) -> bool {
+        let a = self.head.clock;
+        let b = t.track.clock;
+        a.state == b.state
+            && a.complete_fired == b.complete_fired
+            && same_float(a.time_scale, b.time_scale)
+            && same_float(a.elapsed, b.elapsed)
+    }
+
+    // Whether clock, marks and what can be asked are the timeline's.
+    pub fn has_left(&self, t: &Timeline) -> bool {
+        self.has_clock(t) && self.has_marks(t) && self.has_times(t)
+    }
+
+    // The marks are those of the entries, and the spare ones are as they were.
+    fn has_marks(&self, t: &Timeline) -> bool {
+        let n = t.entry_count();
+        let mut marks = self.marks.iter();
+        let mut live = t.track.entries.iter().take(n).zip(&mut marks);
+        live.all(|(e, mark)| e.done == *mark) && marks.all(|mark| *mark)
+    }
+
+    // Base, run and progress.
+    fn has_times(&self, t: &Timeline) -> bool {
+        let spans = self.spans();
+        same_float(self.head.duration(spans, &self.marks), t.duration())
+            && same_float(
+                self.head.playback_duration(spans, &self.marks),
+                t.playback_duration(),
+            )
+            && same_float(self.head.progress(spans, &self.marks), t.progress())
     }
 }
 
-fn preview(
-    head: Playhead,
-    dt: f32,
-    starts: &[f32],
-    durations: &[f32],
-    marks: &[bool],
-    kinds: &mut [u8],
-    amounts: &mut [f32],
-    places: &mut [f32],
-) -> engine::Moved {
-    let refusal = engine::preview(head, dt, starts, durations, marks, kinds, amounts, places);
-    let clock = head.clock;
-    engine::Moved { refusal, clock }
-}
-
-// Call 4, which by value answered this and left these rows and this list.
-pub fn updated(
-    head: Playhead,
-    u: Update,
-    replies: &[u8],
-    by_value: Updated,
-    list: &[u8; LIST],
-    kinds: &[u8; ROWS],
-    amounts: &[f32; ROWS],
-    places: &[f32; ROWS],
-    starts: &[f32; ROWS],
-    durations: &[f32; ROWS],
-    marks: &mut [bool; ROWS],
-) -> Followed {
-    let room = u.room;
-    let k = least(room.kinds, ROWS);
-    let a = least(room.amounts, ROWS);
-    let p = least(room.places, ROWS);
-    let l = least(u.list, LIST);
-    let mut k2 = fresh_bytes();
-    let mut a2 = fresh_floats(AMOUNT);
-    let mut p2 = fresh_floats(PLACE);
-    let mut l2 = fresh_list();
-    let m = engine::update(
-        head,
-        u.dt,
-        starts,
-        durations,
-        marks,
-        replies,
-        &mut l2[..l],
-        &mut k2[..k],
-        &mut a2[..a],
-        &mut p2[..p],
-    );
-    let rows = same_rows(kinds, amounts, places, &k2, &a2, &p2);
-    let lent = both(rows, same_lists(list, &l2));
-    let same = both(lent, same_answers(by_value, m));
-    follow(
-        head,
-        m.clock,
-        by_value.timeline,
-        starts,
-        durations,
-        &*marks,
-        same,
-    )
-}
-
-fn same_lists(list: &[u8; LIST], l2: &[u8; LIST]) -> bool {
-    same_bytes(list, l2)
-}
-
-fn same_answers(a: Updated, m: engine::Updated) -> bool {
-    let flags = both(a.running == m.running, a.completed == m.completed);
-    let numbers = both(a.refusal == m.refusal, a.listed == m.listed);
-    both(flags, numbers)
+// Whether an update by value and one in place are refused by the same, or answer the same.
+pub fn same_answers(a: &Result<Updated, Refusal>, b: &Result<engine::Updated, Refusal>) -> bool {
+    match (a, b) {
+        (Ok(a), Ok(b)) => {
+            a.running == b.running && a.completed == b.completed && a.listed == b.listed
+        }
+        (Err(a), Err(b)) => a == b,
+        _ => false,
+    }
 }

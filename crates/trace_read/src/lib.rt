@@ -1,39 +1,24 @@
-// The operands of a call, read off the bytes of a script. A cursor that ran past the end, or met an operand that is not allowed,
-// is cut and stays so: what it reads from then on counts for nothing, and the call is not made.
+// The operands of a call, read off the bytes of a script. Where an operand is missing, or one that is not allowed, nothing is
+// answered, and the call is not made.
 #![tactic(auto)]
 
-ghost use Rattle.std.specs.Prelude.{◌<◌, ◌≤◌};
+ghost use Rattle.std.specs.Prelude.{◌≤◌};
 
-use digits::wide;
-use steps::least;
 use tween::{GridOrigin, Loop, StaggerPattern};
 
-// How many places of each row slice are lent at most.
+// How many places of each row slice are lent at most, and how many replies, or durations, there are at most.
 pub const ROWS: usize = 300;
 
 // How many places of the list are lent at most.
 pub const LIST: usize = 1000;
 
-// How many replies, or durations, there are at most.
-const MANY: u32 = 300;
-
 // More items than a sequence has at most.
 pub const ITEMS: usize = 256;
 
-// Where to read on, whether all was there so far, and what was read last.
-#[derive(Clone, Copy)]
-pub struct Cursor {
-    pub at: usize,
-    pub whole: bool,
-    pub value: u32,
-}
-
-// Bytes of the script: a label, or replies.
-#[derive(Clone, Copy)]
-pub struct Span {
-    pub from: usize,
-    pub len: usize,
-    pub next: Cursor,
+// What is left of a script.
+#[derive(Drop)]
+pub struct Cursor<'a> {
+    rest: &'a [u8],
 }
 
 // How many places of the row slices are lent.
@@ -42,399 +27,181 @@ pub struct Room {
     pub kinds: usize,
     pub amounts: usize,
     pub places: usize,
-    pub next: Cursor,
+    ghost kinds_fit: { kinds ≤ 300 },
+    ghost amounts_fit: { amounts ≤ 300 },
+    ghost places_fit: { places ≤ 300 },
 }
 
 // What an update is handed: the step, the places of the row slices and of the list that are lent, and the replies.
 #[derive(Clone, Copy)]
-pub struct Update {
+pub struct Update<'a> {
     pub dt: f32,
     pub room: Room,
     pub list: usize,
-    pub replies: Span,
-    pub next: Cursor,
+    pub replies: &'a [u8],
+    ghost list_fits: { list ≤ 1000 },
 }
 
-// A placement: its kind, the seconds of kinds 0 and 4, and the label that kind 3 looks for.
+// A placement, in the order of the numbers; a label is given by its text.
 #[derive(Clone, Copy)]
-pub struct Placement {
-    pub kind: u32,
-    pub secs: f32,
-    pub target: Span,
-    pub next: Cursor,
+pub enum Placement<'a> {
+    Absolute(f32),
+    Start,
+    End,
+    Label(&'a [u8]),
+    Offset(f32),
 }
 
+// An item of a sequence, in the order of the numbers.
 #[derive(Clone, Copy)]
-pub struct Mode {
-    pub mode: Loop,
-    pub next: Cursor,
+pub enum Item<'a> {
+    Then { label: &'a [u8], secs: f32 },
+    ThenFor { label: &'a [u8], secs: f32 },
+    Gap(f32),
 }
 
-#[derive(Clone, Copy)]
-pub struct Pattern {
-    pub pattern: StaggerPattern,
-    pub next: Cursor,
-}
-
-// Durations: the first len values.
-#[derive(Clone, Copy)]
-pub struct Durations {
-    pub values: [f32; ROWS],
-    pub len: usize,
-    pub next: Cursor,
-}
-
-// An item of a sequence: its kind (then, then_for, gap), its label where it has one, and its seconds.
-#[derive(Clone, Copy)]
-pub struct Item {
-    pub kind: u32,
-    pub label: Span,
-    pub secs: f32,
-    pub next: Cursor,
-}
-
-impl Cursor {
+impl<'a> Cursor<'a> {
     // At the beginning of a script.
-    pub fn new() -> Cursor {
-        Cursor {
-            at: 0,
-            whole: true,
-            value: 0,
-        }
+    pub fn new(script: &'a [u8]) -> Cursor<'a> {
+        Cursor { rest: script }
     }
 
-    pub fn cut(self) -> Cursor
-        ensures { result.value < 256 }
-    {
-        Cursor {
-            at: self.at,
-            whole: false,
-            value: 0,
-        }
+    // So many bytes.
+    fn bytes(&mut self, len: usize) -> Option<&'a [u8]> {
+        let (bytes, rest) = self.rest.split_at_checked(len)?;
+        self.rest = rest;
+        Some(bytes)
     }
 
-    // Cut, unless what was read is at most `top`.
-    fn at_most(self, top: u32) -> Cursor {
-        if self.value <= top { self } else { self.cut() }
-    }
-
-    pub fn byte(self, script: &[u8]) -> Cursor
-        ensures { result.value < 256 }
-    {
-        let at = self.at;
-        if at < script.len() {
-            return Cursor {
-                at: at + 1,
-                whole: self.whole,
-                value: wide(script[at]),
-            };
-        }
-        self.cut()
+    pub fn byte(&mut self) -> Option<u8> {
+        self.rest.split_off_first().copied()
     }
 
     // A u16.
-    pub fn half(self, script: &[u8]) -> Cursor
-        ensures { result.value < 65536 }
-    {
-        let low = self.byte(script);
-        let high = low.byte(script);
-        Cursor {
-            at: high.at,
-            whole: high.whole,
-            value: low.value + high.value * 256,
-        }
+    pub fn half(&mut self) -> Option<u16> {
+        let (bytes, rest) = self.rest.split_first_chunk::<2>()?;
+        self.rest = rest;
+        Some(u16::from_le_bytes(*bytes))
     }
 
     // A u32.
-    pub fn word(self, script: &[u8]) -> Cursor {
-        let low = self.half(script);
-        let high = low.half(script);
-        Cursor {
-            at: high.at,
-            whole: high.whole,
-            value: low.value + high.value * 65_536,
-        }
+    pub fn word(&mut self) -> Option<u32> {
+        let (bytes, rest) = self.rest.split_first_chunk::<4>()?;
+        self.rest = rest;
+        Some(u32::from_le_bytes(*bytes))
     }
 
-    // The same, where there is one.
-    pub fn word_if(self, there: bool, script: &[u8]) -> Cursor {
-        if there { self.word(script) } else { self }
-    }
-
-    // The f32 whose bits were read.
-    pub fn float(self) -> f32 {
-        float32::from_bits(self.value)
-    }
-
-    // As many bytes as was read.
-    fn span(self, script: &[u8]) -> Span {
-        let from = self.at;
-        let len = self.value as usize;
-        if from <= script.len() {
-            if len <= script.len() - from {
-                return Span {
-                    from,
-                    len,
-                    next: Cursor {
-                        at: from + len,
-                        whole: self.whole,
-                        value: 0,
-                    },
-                };
-            }
-        }
-        Span {
-            from: 0,
-            len: 0,
-            next: self.cut(),
-        }
+    // An f32, by its bits.
+    pub fn float(&mut self) -> Option<f32> {
+        Some(float32::from_bits(self.word()?))
     }
 
     // A label: its length as a byte, then its bytes.
-    pub fn label(self, script: &[u8]) -> Span {
-        let len = self.byte(script);
-        len.span(script)
-    }
-
-    // The same, where there is one.
-    fn label_if(self, there: bool, script: &[u8]) -> Span {
-        if there {
-            self.label(script)
-        } else {
-            Span {
-                from: 0,
-                len: 0,
-                next: self,
-            }
-        }
+    pub fn label(&mut self) -> Option<&'a [u8]> {
+        let len = self.byte()?;
+        self.bytes(usize::from(len))
     }
 
     // The replies: their number, then a byte each.
-    fn replies(self, script: &[u8]) -> Span {
-        let len = self.half(script);
-        let allowed = len.at_most(MANY);
-        allowed.span(script)
+    fn replies(&mut self) -> Option<&'a [u8]> {
+        let len = usize::from(self.half()?);
+        if len > ROWS {
+            return None;
+        }
+        self.bytes(len)
     }
 
-    pub fn room(self, script: &[u8]) -> Room
-        ensures { (result.kinds ≤ 300) × (result.amounts ≤ 300) × (result.places ≤ 300) }
-    {
-        let kinds = self.half(script);
-        let amounts = kinds.half(script);
-        let places = amounts.half(script);
-        Room {
-            kinds: least(kinds.value as usize, ROWS),
-            amounts: least(amounts.value as usize, ROWS),
-            places: least(places.value as usize, ROWS),
-            next: places,
-        }
+    pub fn room(&mut self) -> Option<Room> {
+        Some(Room {
+            kinds: usize::from(self.half()?).min(ROWS),
+            amounts: usize::from(self.half()?).min(ROWS),
+            places: usize::from(self.half()?).min(ROWS),
+        })
     }
 
-    pub fn update(self, script: &[u8]) -> Update
-        ensures { (result.room.kinds ≤ 300) × (result.room.amounts ≤ 300) × (result.room.places ≤ 300) × (result.list ≤ 1000) }
-    {
-        let dt = self.word(script);
-        let room = dt.room(script);
-        let after_room = room.next;
-        let list = after_room.half(script);
-        let replies = list.replies(script);
-        let next = replies.next;
-        Update {
-            dt: dt.float(),
-            room,
-            list: least(list.value as usize, LIST),
-            replies,
-            next,
-        }
+    pub fn update(&mut self) -> Option<Update<'a>> {
+        Some(Update {
+            dt: self.float()?,
+            room: self.room()?,
+            list: usize::from(self.half()?).min(LIST),
+            replies: self.replies()?,
+        })
     }
 
-    pub fn placement(self, script: &[u8]) -> Placement {
-        let read = self.byte(script);
-        let kind = read.value;
-        let allowed = read.at_most(4);
-        let secs = allowed.word_if(kind == 0 || kind == 4, script);
-        let target = secs.label_if(kind == 3, script);
-        let next = target.next;
-        Placement {
-            kind,
-            secs: secs.float(),
-            target,
-            next,
-        }
+    pub fn placement(&mut self) -> Option<Placement<'a>> {
+        Some(match self.byte()? {
+            0 => Placement::Absolute(self.float()?),
+            1 => Placement::Start,
+            2 => Placement::End,
+            3 => Placement::Label(self.label()?),
+            4 => Placement::Offset(self.float()?),
+            _ => return None,
+        })
     }
 
     // A loop mode and a number, which some modes have.
-    pub fn looping(self, script: &[u8]) -> Mode {
-        let mode = self.byte(script);
-        let allowed = mode.at_most(4);
-        let number = allowed.word(script);
-        Mode {
-            mode: loop_of(mode.value, number.value),
-            next: number,
+    pub fn looping(&mut self) -> Option<Loop> {
+        let mode = self.byte()?;
+        if mode > 4 {
+            return None;
         }
+        Some(Loop::from_parts(mode, self.word()?))
     }
 
-    pub fn pattern(self, script: &[u8]) -> Pattern {
-        let read = self.byte(script);
-        let kind = read.value;
-        let allowed = read.at_most(3);
-        match kind {
-            0 => allowed.grid(script),
-            1 => allowed.random(script),
-            2 => allowed.center_out(script),
-            _ => allowed.edges_in(script),
-        }
-    }
-
-    // The same, where there is one.
-    pub fn pattern_if(self, there: bool, script: &[u8]) -> Pattern {
-        if there {
-            self.pattern(script)
-        } else {
-            Pattern {
-                pattern: StaggerPattern::CenterOut {
-                    count: 0,
-                    step: 0.0,
-                },
-                next: self,
-            }
-        }
-    }
-
-    fn grid(self, script: &[u8]) -> Pattern {
-        let cols = self.word(script);
-        let rows = cols.word(script);
-        let origin = rows.byte(script);
-        let allowed = origin.at_most(8);
-        let step = allowed.word(script);
-        let origin = origin_of(origin.value);
-        Pattern {
-            pattern: StaggerPattern::Grid {
-                cols: cols.value,
-                rows: rows.value,
-                origin,
-                step: step.float(),
+    pub fn pattern(&mut self) -> Option<StaggerPattern> {
+        Some(match self.byte()? {
+            0 => StaggerPattern::Grid {
+                cols: self.word()?,
+                rows: self.word()?,
+                origin: GridOrigin::from_number(u32::from(self.byte()?))?,
+                step: self.float()?,
             },
-            next: step,
-        }
-    }
-
-    fn random(self, script: &[u8]) -> Pattern {
-        let seed = self.word(script);
-        let least = seed.word(script);
-        let most = least.word(script);
-        Pattern {
-            pattern: StaggerPattern::Random {
-                seed: seed.value,
-                min_delay: least.float(),
-                max_delay: most.float(),
+            1 => StaggerPattern::Random {
+                seed: self.word()?,
+                min_delay: self.float()?,
+                max_delay: self.float()?,
             },
-            next: most,
-        }
-    }
-
-    fn center_out(self, script: &[u8]) -> Pattern {
-        let count = self.word(script);
-        let step = count.word(script);
-        Pattern {
-            pattern: StaggerPattern::CenterOut {
-                count: count.value,
-                step: step.float(),
+            2 => StaggerPattern::CenterOut {
+                count: self.word()?,
+                step: self.float()?,
             },
-            next: step,
-        }
-    }
-
-    fn edges_in(self, script: &[u8]) -> Pattern {
-        let count = self.word(script);
-        let step = count.word(script);
-        Pattern {
-            pattern: StaggerPattern::EdgesIn {
-                count: count.value,
-                step: step.float(),
+            3 => StaggerPattern::EdgesIn {
+                count: self.word()?,
+                step: self.float()?,
             },
-            next: step,
-        }
+            _ => return None,
+        })
     }
 
-    // Their number, then an f32 each.
-    pub fn durations(self, script: &[u8]) -> Durations {
-        let read = self.half(script);
-        let mut next = read.at_most(MANY);
-        let len = least(next.value as usize, ROWS);
-        let mut values = no_durations();
-        let mut i = 0;
-        while i < len {
-            next = next.word(script);
-            put(&mut values, i, next.float());
-            i += 1;
+    // Durations: their number, then an f32 each, which are put into a lent array, since no heap is allowed.
+    pub fn durations<'b>(&mut self, room: &'b mut [f32; ROWS]) -> Option<&'b [f32]> {
+        let len = usize::from(self.half()?);
+        if len > ROWS {
+            return None;
         }
-        Durations { values, len, next }
+        for value in &mut room[..len] {
+            *value = self.float()?;
+        }
+        Some(&room[..len])
     }
 
     // An item of a sequence. What then_for is told of the leaf's own duration is passed over.
-    pub fn item(self, script: &[u8]) -> Item {
-        let read = self.byte(script);
-        let kind = read.value;
-        let allowed = read.at_most(2);
-        let label = allowed.label_if(kind < 2, script);
-        let after_label = label.next;
-        let own = after_label.word_if(kind == 1, script);
-        let secs = own.word(script);
-        Item {
-            kind,
-            label,
-            secs: secs.float(),
-            next: secs,
-        }
-    }
-}
-
-fn no_durations() -> [f32; ROWS] {
-    [0.0; ROWS]
-}
-
-fn put(values: &mut [f32; ROWS], at: usize, x: f32)
-    requires { at < 300 }
-{
-    values[at] = x;
-}
-
-// The bytes of a span.
-pub fn bytes(script: &[u8], s: Span) -> &[u8] {
-    let from = s.from;
-    let len = s.len;
-    if from <= script.len() {
-        if len <= script.len() - from {
-            let to = from + len;
-            return &script[from..to];
-        }
-    }
-    &script[..0]
-}
-
-// The modes in their order.
-fn loop_of(mode: u32, n: u32) -> Loop {
-    match mode {
-        0 => Loop::Once,
-        1 => Loop::Times(n),
-        2 => Loop::Forever,
-        3 => Loop::PingPong,
-        _ => Loop::PingPongTimes(n),
-    }
-}
-
-// The origins in their order.
-fn origin_of(n: u32) -> GridOrigin {
-    match n {
-        0 => GridOrigin::TopLeft,
-        1 => GridOrigin::TopRight,
-        2 => GridOrigin::BottomLeft,
-        3 => GridOrigin::BottomRight,
-        4 => GridOrigin::Center,
-        5 => GridOrigin::Top,
-        6 => GridOrigin::Bottom,
-        7 => GridOrigin::Left,
-        _ => GridOrigin::Right,
+    pub fn item(&mut self) -> Option<Item<'a>> {
+        Some(match self.byte()? {
+            0 => Item::Then {
+                label: self.label()?,
+                secs: self.float()?,
+            },
+            1 => {
+                let label = self.label()?;
+                self.word()?;
+                Item::ThenFor {
+                    label,
+                    secs: self.float()?,
+                }
+            }
+            2 => Item::Gap(self.float()?),
+            _ => return None,
+        })
     }
 }

@@ -5,4 +5,5 @@ pub mod Ticks
 pub mod Replies
 pub mod Trimmed
 pub mod Outcomes
+pub mod Refused
 pub mod Claims

@@ -19,7 +19,7 @@ use Rattle.steps.specs.Times.{run_of, local_time}
 use Rattle.steps.proofs.Tests.{and-true}
 use Rattle.completions.specs.Completions.{completions_between}
 use Rattle.completions.specs.Answers.{room_for, Listed}
-use Rattle.completions.specs.declared.Counted.TheVariants.{Within, Over}
+use Rattle.std.specs.Prelude.{Some, None}
 use Rattle.clock.specs.declared.Clock.{Clock}
 use Rattle.clock.specs.declared.Reach.{Reach}
 use Rattle.clock.specs.Clocks.{is_playing, cleared, played, play_rule, seek_to, share_in, sought, advances, advance_rule, next_elapsed, reach_of, advanced_clock, stayed_clock}
@@ -217,14 +217,14 @@ module _ (t : Track) (dt : Float) (k₀ : List ℕ) (a₀ p₀ : List Float) {n 
 -- ---- the completions, as the walk answers
 
 module _ (xs old new : List ℕ) where
-  pub listed-within : (n : ℕ) → Listed xs old new (Within n) → (ltb (length old) (length xs) ≡ false) × (n ≡ length xs) × (new ≡ over xs old)
+  pub listed-within : (n : ℕ) → Listed xs old new (Some n) → (ltb (length old) (length xs) ≡ false) × (n ≡ length xs) × (new ≡ over xs old)
   listed-within n w = go (room_for xs old) refl w.refusal w.count w.list
     where
       go : (b : Bool) → room_for xs old ≡ b → accepted ≡ cond b accepted list_too_short → n ≡ cond b (length xs) 0 → new ≡ cond b (over xs old) old → (ltb (length old) (length xs) ≡ false) × (n ≡ length xs) × (new ≡ over xs old)
       go true p e c l = (le-ltb (length old) (length xs) (leb-true (length xs) (length old) p), c, l)
       go false p e c l = let f : ⊥ = omega arith in absurd f
 
-  pub listed-over : Listed xs old new Over → (ltb (length old) (length xs) ≡ true) × (new ≡ old)
+  pub listed-over : Listed xs old new None → (ltb (length old) (length xs) ≡ true) × (new ≡ old)
   listed-over w = go (room_for xs old) refl w.refusal w.list
     where
       go : (b : Bool) → room_for xs old ≡ b → list_too_short ≡ cond b accepted list_too_short → new ≡ cond b (over xs old) old → (ltb (length old) (length xs) ≡ true) × (new ≡ old)

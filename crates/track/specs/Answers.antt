@@ -2,14 +2,21 @@
 use denote.Triple.Both.{Both}
 use denote.MutBor.{MutBor, as_bor}
 use Rattle.std.specs.Borrow.{Bor}
-use Rattle.std.specs.Prelude.{ℕ, min, ◌≡◌, Bool, true, false, not, cond, List, map, length, take, Float}
+use Rattle.std.specs.Prelude.{ℕ, min, ◌≡◌, Bool, true, false, not, cond, List, map, length, take, replicate, Float, Result, Ok, Err}
 use Rattle.steps.specs.declared.Entry.{Entry}
+use Rattle.steps.specs.declared.Row.{Row}
+use Rattle.float32.specs.Helpers.{zero_f}
 use Rattle.steps.specs.Slices.{over}
-use Rattle.refusal.specs.Refusal.{accepted}
+use Rattle.steps.specs.Times.{max_entries}
+use Rattle.refusal.specs.declared.Refusal.{Refusal}
+use Rattle.refusal.specs.Refusal.{accepted, number_in, held_or}
+use Rattle.completions.specs.declared.Spans.{Spans}
 use Rattle.clock.specs.declared.Clock.{Clock}
 use Rattle.clock.specs.Clocks.{is_playing, is_completed, fires}
+use Rattle.track.specs.declared.rows.Rows.{Rows}
 use Rattle.track.specs.declared.track.Track.{Track}
 use Rattle.track.specs.declared.track.Playhead.{Playhead}
+use Rattle.track.specs.declared.track.Columns.{Columns}
 use Rattle.track.specs.Tracks.{live, with_only, Sent}
 use Rattle.track.specs.Columns.{track_of, with_clock_at}
 use Rattle.track.specs.Calls.{Room, room_of, TrackCall, Update, Preview, TrackOut, track_step}
@@ -25,6 +32,20 @@ LentMut A = Both (MutBor (List A)) (MutBor (List A))
 -- what it held and holds, as of a slice that is lent to be read
 abbrev pub seen : {A : Type 0} → LentMut A → Lent A
 seen s = record { entry = as_bor s.entry; exit = as_bor s.exit }
+
+-- the three row slices, likewise
+abbrev pub LentRows : Type 0
+LentRows = Both (MutBor Rows) (MutBor Rows)
+
+-- they are the same three slices as before
+pub record SameSlices (r s : Rows) : Type 0 where
+  pub kinds : s.kinds.ghost_name ≡ r.kinds.ghost_name
+  pub amounts : s.amounts.ghost_name ≡ r.amounts.ghost_name
+  pub places : s.places.ghost_name ≡ r.places.ghost_name
+
+-- refused by r, where the test says so
+abbrev pub refused_where : Bool → Refusal → Result Unit Refusal
+refused_where refused r = cond refused (Err r) (Ok tt)
 
 -- what `update` answers: of the completed entries, how many it wrote to the lent list
 pub record Answer : Type 0 where
@@ -69,33 +90,42 @@ pub record ShowsBy (o : TrackOut) (n : ℕ) (k₀ k : List ℕ) (a₀ a p₀ p :
   pub rows : Sent o.rows k₀ k a₀ a p₀ p
 
 -- the track that the playhead plays in lent columns, and the track that is left in them with the clock c; starts and durations stay
-abbrev pub lent_track : Playhead → Lent Float → Lent Float → Lent Bool → Track
-lent_track head starts durations marks = track_of head starts.entry.now durations.entry.now marks.entry.now
+abbrev pub lent_track : Playhead → Spans → Lent Bool → Track
+lent_track head spans marks = track_of head spans.starts.now spans.durations.now marks.entry.now
 
-abbrev pub left_track : Playhead → Clock → Lent Float → Lent Float → LentMut Bool → Track
-left_track head c starts durations marks = track_of (with_clock_at head c) starts.entry.now durations.entry.now marks.exit.now
+abbrev pub left_track : Playhead → Clock → Spans → LentMut Bool → Track
+left_track head c spans marks = track_of (with_clock_at head c) spans.starts.now spans.durations.now marks.exit.now
 
 -- how many places the lent row slices have
-abbrev pub lent_room : LentMut ℕ → LentMut Float → LentMut Float → Room
-lent_room kinds amounts places = room_of kinds.entry.now amounts.entry.now places.entry.now
+abbrev pub lent_room : LentRows → Room
+lent_room rows = room_of rows.entry.now.kinds.now rows.entry.now.amounts.now rows.entry.now.places.now
 
--- the call in place refuses by n and leaves the clock c
-abbrev pub MovesInPlace : Playhead → Lent Float → Lent Float → LentMut Bool → (Room → TrackCall) → ℕ → Clock → LentMut ℕ → LentMut Float → LentMut Float → Type 0
-MovesInPlace head starts durations marks call n c kinds amounts places =
-    MovesBy (track_step (lent_track head starts durations (seen marks)) (call (lent_room kinds amounts places))) n (left_track head c starts durations marks)
-    kinds.entry.now kinds.exit.now amounts.entry.now amounts.exit.now places.entry.now places.exit.now
+-- the rows rs have been sent to them
+abbrev pub SentIn : List Row → LentRows → Type 0
+SentIn rs rows =
+    SameSlices rows.entry.now rows.exit.now
+    × Sent rs rows.entry.now.kinds.now rows.exit.now.kinds.now rows.entry.now.amounts.now rows.exit.now.amounts.now rows.entry.now.places.now rows.exit.now.places.now
+
+-- the call in place answers r: its refusal, or the clock that it leaves; a refused one leaves the clock of before
+abbrev pub MovesInPlace : Playhead → Spans → LentMut Bool → (Room → TrackCall) → Result Clock Refusal → LentRows → Type 0
+MovesInPlace head spans marks call r rows =
+    SameSlices rows.entry.now rows.exit.now
+    × MovesBy (track_step (lent_track head spans (seen marks)) (call (lent_room rows))) (number_in r) (left_track head (held_or head.clock r) spans marks)
+    rows.entry.now.kinds.now rows.exit.now.kinds.now rows.entry.now.amounts.now rows.exit.now.amounts.now rows.entry.now.places.now rows.exit.now.places.now
 
 -- the update by dt in place answers x and leaves the clock c
-abbrev pub UpdatesInPlace : Playhead → Lent Float → Lent Float → LentMut Bool → Float → Lent ℕ → Answer → Clock → LentMut ℕ → LentMut ℕ → LentMut Float → LentMut Float → Type 0
-UpdatesInPlace head starts durations marks dt replies x c list kinds amounts places =
-    UpdatesBy (track_step (lent_track head starts durations (seen marks)) (Update dt replies.entry.now (length list.entry.now) (lent_room kinds amounts places))) x (left_track head c starts durations marks)
-    list.entry.now list.exit.now kinds.entry.now kinds.exit.now amounts.entry.now amounts.exit.now places.entry.now places.exit.now
+abbrev pub UpdatesInPlace : Playhead → Spans → LentMut Bool → Float → Lent ℕ → Answer → Clock → LentMut ℕ → LentRows → Type 0
+UpdatesInPlace head spans marks dt replies x c list rows =
+    SameSlices rows.entry.now rows.exit.now
+    × UpdatesBy (track_step (lent_track head spans (seen marks)) (Update dt replies.entry.now (length list.entry.now) (lent_room rows))) x (left_track head c spans marks)
+    list.entry.now list.exit.now rows.entry.now.kinds.now rows.exit.now.kinds.now rows.entry.now.amounts.now rows.exit.now.amounts.now rows.entry.now.places.now rows.exit.now.places.now
 
--- the preview in place of an update by dt refuses by n
-abbrev pub ShowsInPlace : Playhead → Lent Float → Lent Float → Lent Bool → Float → ℕ → LentMut ℕ → LentMut Float → LentMut Float → Type 0
-ShowsInPlace head starts durations marks dt n kinds amounts places =
-    ShowsBy (track_step (lent_track head starts durations marks) (Preview dt (lent_room kinds amounts places))) n
-    kinds.entry.now kinds.exit.now amounts.entry.now amounts.exit.now places.entry.now places.exit.now
+-- the preview in place of an update by dt answers r
+abbrev pub ShowsInPlace : Playhead → Spans → Lent Bool → Float → Result Unit Refusal → LentRows → Type 0
+ShowsInPlace head spans marks dt r rows =
+    SameSlices rows.entry.now rows.exit.now
+    × ShowsBy (track_step (lent_track head spans marks) (Preview dt (lent_room rows))) (number_in r)
+    rows.entry.now.kinds.now rows.exit.now.kinds.now rows.entry.now.amounts.now rows.exit.now.amounts.now rows.entry.now.places.now rows.exit.now.places.now
 
 -- the entries es of the track k stand in the columns, and the playhead h plays them
 pub record LaysOut (k : Track) (es : List Entry) (h : Playhead) (s₀ s d₀ d : List Float) (m₀ m : List Bool) : Type 0 where
@@ -110,3 +140,9 @@ abbrev pub LaidOut : Track → Playhead → LentMut Float → LentMut Float → 
 LaidOut k h starts durations marks =
     LaysOut k (take (min (length starts.entry.now) (min (length durations.entry.now) (length marks.entry.now))) (live k)) h
     starts.entry.now starts.exit.now durations.entry.now durations.exit.now marks.entry.now marks.exit.now
+
+-- the columns of the track k, by value
+abbrev pub ColumnsOf : Track → Columns → Type 0
+ColumnsOf k c =
+    LaysOut k (take max_entries (live k)) c.head
+    (replicate max_entries zero_f) c.starts (replicate max_entries zero_f) c.durations (replicate max_entries false) c.marks

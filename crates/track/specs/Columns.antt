@@ -25,6 +25,10 @@ entries_of (s ∷ ss) (d ∷ ds) (m ∷ ms) = entry_of s d m ∷ entries_of ss d
 abbrev pub first_of : ℕ → List Float → List Float → List Bool → List Entry
 first_of n ss ds ms = take n (entries_of ss ds ms)
 
+-- how many entries of columns with these lengths count: as many as the count, a byte's numbers and the shortest column allow
+abbrev pub entries_in : ℕ → ℕ → ℕ → ℕ → ℕ
+entries_in count starts durations marks = min (min count most_entries) (min starts (min durations marks))
+
 -- the track that a playhead plays in the columns: its count of entries, as far as a list can number them in bytes, and no others
 unfoldable pub track_of : Playhead → List Float → List Float → List Bool → Track
 track_of h ss ds ms =

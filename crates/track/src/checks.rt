@@ -1,33 +1,39 @@
 // What refuses a call on n entries before anything is sent: the lent slices.
-ghost use Rattle.std.specs.Prelude.{◌≡◌};
-ghost use Rattle.track.specs.Updates.{replies_bad_in};
+ghost use Rattle.std.specs.Prelude.{◌≡◌, length};
+ghost use Rattle.refusal.specs.declared.Refusal.TheVariants.{RowsTooShort, BadReplies};
+ghost use Rattle.track.specs.Answers.{refused_where};
+ghost use Rattle.track.specs.Updates.{above_one, replies_bad_in};
 ghost use Rattle.track.specs.Calls.{short_in};
 
-// 3: one of the three row slices, with room for these, is shorter than n entries.
-pub fn rows_short(n: usize, kinds: usize, amounts: usize, places: usize) -> bool
-    ensures { result ≡ short_in n kinds amounts places }
-{
-    if kinds < n {
-        return true;
+use crate::rows::Rows;
+use refusal::Refusal;
+
+impl<'a> Rows<'a> {
+    // 3: one of the three slices is shorter than n entries.
+    pub fn check(&self, n: usize) -> Result<(), Refusal>
+        ensures { result ≡ refused_where (short_in n (length self.now.kinds.now) (length self.now.amounts.now) (length self.now.places.now)) RowsTooShort }
+    {
+        if self.kinds.len() < n || self.amounts.len() < n || self.places.len() < n {
+            return Err(Refusal::RowsTooShort);
+        }
+        Ok(())
     }
-    if amounts < n {
-        return true;
-    }
-    places < n
 }
 
 // 4: there are fewer replies than n, or one of those is above 1.
-pub fn replies_bad(replies: &[u8], n: usize) -> bool
-    ensures { result ≡ replies_bad_in n replies.now }
+pub fn check_replies(replies: &[u8], n: usize) -> Result<(), Refusal>
+    ensures { result ≡ refused_where (replies_bad_in n replies.now) BadReplies }
 {
-    if replies.len() < n {
-        return true;
+    let bad = replies.len() < n || above_one(&replies[..n]);
+    if bad {
+        return Err(Refusal::BadReplies);
     }
-    let mut bad = false;
-    let mut i = 0usize;
-    while i < n {
-        bad = steps::either(bad, replies[i] > 1);
-        i += 1;
-    }
-    bad
+    Ok(())
+}
+
+// Whether one of the replies is above 1.
+fn above_one(replies: &[u8]) -> bool
+    ensures { result ≡ above_one replies.now }
+{
+    replies.iter().any(|reply| *reply > 1)
 }

@@ -2,4 +2,5 @@
 #![tactic(auto)]
 
 pub mod checks;
+pub mod rows;
 pub mod track;

@@ -1,13 +1,13 @@
 // What plays (timeline.rs; paper 01, part 4): a track by value, and the way from it to three columns of numbers and back.
-ghost use Rattle.std.specs.Prelude.{◌≡◌, ◌≤◌, min, length, take};
+ghost use Rattle.std.specs.Prelude.{◌≡◌, length};
 ghost use Rattle.clock.specs.Clocks.{scaled, paused, resumed};
 ghost use Rattle.track.specs.Tracks.{empty_track, live, with_marks, track_base, track_run, progress_in, progress_of};
-ghost use Rattle.track.specs.Columns.{with_clock_at, with_mode_at, track_of, laid_over};
-ghost use Rattle.completions.specs.Columns.{most_entries};
-ghost use Rattle.track.specs.Answers.{lent_track, LaidOut};
+ghost use Rattle.track.specs.Columns.{with_clock_at, with_mode_at, entries_in, track_of, laid_over};
+ghost use Rattle.track.specs.Answers.{lent_track, LaidOut, ColumnsOf};
 ghost use Rattle.track.specs.Claims.{Claims};
 
 use clock::{Clock, TimelineState};
+use completions::{MOST_ENTRIES, Spans};
 use steps::{Entry, MAX_ENTRIES};
 use tween::Loop;
 
@@ -19,7 +19,8 @@ pub struct Secs(pub f32);
 #[derive(Clone, Copy)]
 pub struct Share(pub f32);
 
-// What plays. The entries that count are the first count of the array, or all of it.
+// What plays. The entries that count are the first count of the array, or all of it: paper 01 has fixed
+// arrays in place of heap types.
 #[derive(Clone, Copy)]
 pub struct Track {
     pub count: usize,
@@ -41,11 +42,9 @@ impl Playhead {
     pub fn looping(self, mode: Loop) -> Playhead
         ensures { result ≡ with_mode_at self mode }
     {
-        let clock = self.clock;
         Playhead {
-            count: self.count,
-            clock,
             looping: mode,
+            ..self
         }
     }
 
@@ -53,72 +52,64 @@ impl Playhead {
     pub fn set_time_scale(self, scale: f32) -> Playhead
         ensures { result ≡ with_clock_at self (scaled self.clock scale) }
     {
-        let c = self.clock;
-        let clock = c.scaled(scale);
-        self.with_clock(clock)
+        self.with_clock(self.clock.scaled(scale))
     }
 
     // `pause`
     pub fn pause(self) -> Playhead
         ensures { result ≡ with_clock_at self (paused self.clock) }
     {
-        let c = self.clock;
-        let clock = c.paused();
-        self.with_clock(clock)
+        self.with_clock(self.clock.paused())
     }
 
     // `resume`
     pub fn resume(self) -> Playhead
         ensures { result ≡ with_clock_at self (resumed self.clock) }
     {
-        let c = self.clock;
-        let clock = c.resumed();
-        self.with_clock(clock)
+        self.with_clock(self.clock.resumed())
     }
 
     // The playhead with the clock that a call left.
     pub fn with_clock(self, clock: Clock) -> Playhead
         ensures { result ≡ with_clock_at self clock }
     {
-        let c = clock.kept();
-        let mode = self.looping;
         Playhead {
-            count: self.count,
-            clock: c,
-            looping: mode,
+            clock: clock.kept(),
+            ..self
         }
+    }
+
+    // How many entries of the columns count: as many as the count, a byte's numbers and the shortest column allow.
+    pub fn entries(self, spans: Spans<'_>, marks: usize) -> usize
+        ensures { result ≡ entries_in self.count (length spans.entry.starts.now) (length spans.entry.durations.now) marks }
+    {
+        self.count.min(MOST_ENTRIES).min(spans.len()).min(marks)
     }
 }
 
 // The queries, over the columns.
 impl Playhead {
     // The base: `duration`.
-    pub fn duration(self, starts: &[f32], durations: &[f32], marks: &[bool]) -> f32
-        ensures { result ≡ track_base (lent_track self starts durations marks) }
+    pub fn duration(self, spans: Spans<'_>, marks: &[bool]) -> f32
+        ensures { result ≡ track_base (lent_track self spans.entry marks) }
     {
-        let n = entries_in(self.count, starts.len(), durations.len(), marks.len());
-        completions::base(n, starts, durations)
+        completions::base(self.entries(spans, marks.len()), spans)
     }
 
     // The run: `playback_duration`.
-    pub fn playback_duration(self, starts: &[f32], durations: &[f32], marks: &[bool]) -> f32
-        ensures { result ≡ track_run (lent_track self starts durations marks) }
+    pub fn playback_duration(self, spans: Spans<'_>, marks: &[bool]) -> f32
+        ensures { result ≡ track_run (lent_track self spans.entry marks) }
     {
-        let base = self.duration(starts, durations, marks);
-        let mode = self.looping;
-        steps::run_of(mode, base)
+        steps::run_of(self.looping, self.duration(spans, marks))
     }
 
     // `progress`
-    pub fn progress(self, starts: &[f32], durations: &[f32], marks: &[bool]) -> f32
-        ensures { result ≡ progress_of (lent_track self starts durations marks) }
+    pub fn progress(self, spans: Spans<'_>, marks: &[bool]) -> f32
+        ensures { result ≡ progress_of (lent_track self spans.entry marks) }
     {
-        let base = self.duration(starts, durations, marks);
-        let mode = self.looping;
-        let total = steps::run_of(mode, base);
-        let c = self.clock;
-        let elapsed = c.elapsed;
-        progress_in(mode, base, total, elapsed)
+        let base = self.duration(spans, marks);
+        let total = steps::run_of(self.looping, base);
+        progress_in(self.looping, base, total, self.clock.elapsed)
     }
 }
 
@@ -168,95 +159,70 @@ impl Track {
     pub fn lay_out(self, starts: &mut [f32], durations: &mut [f32], marks: &mut [bool]) -> Playhead
         ensures { LaidOut self result starts durations marks }
     {
-        let room = steps::least(starts.len(), steps::least(durations.len(), marks.len()));
-        let n = steps::least(self.entry_count(), room);
-        let entries = self.entries;
-        let mut i = 0usize;
-        while i < n {
-            let e = entries[i];
+        let room = starts.len().min(durations.len()).min(marks.len());
+        let n = self.entry_count().min(room);
+        for i in 0..n {
+            let e = self.entries[i];
             starts[i] = e.start;
             durations[i] = e.duration;
             marks[i] = e.done;
-            i += 1;
         }
-        let clock = self.clock;
-        let mode = self.looping;
         Playhead {
             count: n,
-            clock,
-            looping: mode,
+            clock: self.clock,
+            looping: self.looping,
         }
     }
 
     // The way back: what plays in the columns, over the first of the entries here.
-    pub fn gather(self, head: Playhead, starts: &[f32], durations: &[f32], marks: &[bool]) -> Track
-        ensures { result ≡ laid_over self (track_of head starts.now durations.now marks.now) }
+    pub fn gather(mut self, head: Playhead, spans: Spans<'_>, marks: &[bool]) -> Track
+        ensures { result ≡ laid_over self (track_of head spans.entry.starts.now spans.entry.durations.now marks.now) }
     {
-        let all = entries_in(head.count, starts.len(), durations.len(), marks.len());
-        let n = steps::least(all, MAX_ENTRIES);
-        let mut entries = self.entries;
-        let mut i = 0usize;
-        while i < n {
-            entries[i] = Entry {
-                start: starts[i],
-                duration: durations[i],
+        let n = head.entries(spans, marks.len()).min(MAX_ENTRIES);
+        for i in 0..n {
+            self.entries[i] = Entry {
+                start: spans.starts[i],
+                duration: spans.durations[i],
                 done: marks[i],
             };
-            i += 1;
         }
-        let clock = head.clock;
-        let mode = head.looping;
         Track {
             count: n,
-            entries,
-            clock,
-            looping: mode,
+            entries: self.entries,
+            clock: head.clock,
+            looping: head.looping,
         }
     }
 
     // This track after a call in columns that it was laid out in, which left the clock and the marks.
-    pub fn with_marks(self, clock: Clock, marks: &[bool]) -> Track
+    pub fn with_marks(mut self, clock: Clock, marks: &[bool]) -> Track
         ensures { result ≡ with_marks self clock marks.now }
     {
-        let n = steps::least(self.entry_count(), marks.len());
-        let mut entries = self.entries;
-        let mut i = 0usize;
-        while i < n {
-            let e = entries[i];
-            entries[i] = Entry {
-                start: e.start,
-                duration: e.duration,
-                done: marks[i],
-            };
-            i += 1;
+        let n = self.entry_count().min(marks.len());
+        for i in 0..n {
+            self.entries[i].done = marks[i];
         }
-        let mode = self.looping;
-        Track {
-            count: self.count,
-            entries,
-            clock,
-            looping: mode,
-        }
+        self.clock = clock;
+        self
     }
 
     // The base: `duration`.
     pub fn duration(self) -> f32
         ensures { result ≡ track_base self }
     {
-        let mut starts = [0.0f32; MAX_ENTRIES];
-        let mut durations = [0.0f32; MAX_ENTRIES];
-        let mut marks = [false; MAX_ENTRIES];
-        let head = self.lay_out(&mut starts, &mut durations, &mut marks);
-        completions::base(head.count, &starts, &durations)
+        let c = Columns::of(self);
+        let spans = Spans {
+            starts: &c.starts,
+            durations: &c.durations,
+        };
+        completions::base(c.head.count, spans)
     }
 
     // The run: `playback_duration`.
     pub fn playback_duration(self) -> f32
         ensures { result ≡ track_run self }
     {
-        let base = self.duration();
-        let mode = self.looping;
-        steps::run_of(mode, base)
+        steps::run_of(self.looping, self.duration())
     }
 
     // `progress`
@@ -264,27 +230,43 @@ impl Track {
         ensures { result ≡ progress_of self }
     {
         let base = self.duration();
-        let mode = self.looping;
-        let total = steps::run_of(mode, base);
-        let c = self.clock;
-        let elapsed = c.elapsed;
-        progress_in(mode, base, total, elapsed)
+        let total = steps::run_of(self.looping, base);
+        progress_in(self.looping, base, total, self.clock.elapsed)
     }
 
     // How many entries count: `entry_count`.
     pub fn entry_count(self) -> usize
         ensures { result ≡ length (live self) }
     {
-        steps::least(self.count, MAX_ENTRIES)
+        self.count.min(MAX_ENTRIES)
     }
 }
 
-// How many entries of columns with these lengths count: as many as the count, a byte's numbers and the shortest column allow.
-pub fn entries_in(count: usize, starts: usize, durations: usize, marks: usize) -> usize
-    ensures { result ≡ min (min count most_entries) (min starts (min durations marks)) }
-{
-    let room = steps::least(starts, steps::least(durations, marks));
-    steps::least(steps::least(count, completions::MOST_ENTRIES), room)
+// The columns of a track by value, and the playhead to play them with: the way to the engine for who has no columns to lend.
+#[derive(Clone, Copy)]
+pub struct Columns {
+    pub head: Playhead,
+    pub starts: [f32; MAX_ENTRIES],
+    pub durations: [f32; MAX_ENTRIES],
+    pub marks: [bool; MAX_ENTRIES],
+}
+
+impl Columns {
+    // The columns of this track, with 0.0 and false behind its entries.
+    pub fn of(track: Track) -> Columns
+        ensures { ColumnsOf track result }
+    {
+        let mut starts = [0.0; MAX_ENTRIES];
+        let mut durations = [0.0; MAX_ENTRIES];
+        let mut marks = [false; MAX_ENTRIES];
+        let head = track.lay_out(&mut starts, &mut durations, &mut marks);
+        Columns {
+            head,
+            starts,
+            durations,
+            marks,
+        }
+    }
 }
 
 // The claims of specs/Claims.antt hold.

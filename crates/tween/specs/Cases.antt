@@ -1,10 +1,9 @@
 -- The stagger patterns among the panels at the edges that paper 01 marks *, as one table.
-use Rattle.std.specs.Prelude.{ℕ, Bool, true, ◌&&◌, List, [], ◌∷◌, eqb}
+use Rattle.std.specs.Prelude.{ℕ, Bool, true, false, ◌&&◌, List, [], ◌∷◌, eqb, Float, Result, Ok, Err}
 use Rattle.std.specs.Float.{binary32}
 use Rattle.std.specs.Float.Ieee.{of_bits, to_bits}
 use Rattle.float32.specs.Helpers.{one_f}
-use Rattle.refusal.specs.Refusal.{accepted}
-use Rattle.tween.specs.declared.stagger_pattern.Delay.{Delay}
+use Rattle.refusal.specs.declared.Refusal.{Refusal}
 use Rattle.tween.specs.declared.stagger_pattern.GridOrigin.TheVariants.{Center}
 use Rattle.tween.specs.declared.stagger_pattern.StaggerPattern.{StaggerPattern}
 use Rattle.tween.specs.declared.stagger_pattern.StaggerPattern.TheVariants.{Grid, Random, EdgesIn}
@@ -15,8 +14,9 @@ pub data Case : Type 0 where
   case : StaggerPattern → ℕ → ℕ → Case
 
 -- the answer is accepted and has these bits
-unfoldable pub gives : Delay → ℕ → Bool
-gives d bits = eqb d.refusal accepted && eqb (to_bits binary32 d.delay) bits
+unfoldable pub gives : Result Float Refusal → ℕ → Bool
+gives (Ok delay) bits = eqb (to_bits binary32 delay) bits
+gives (Err r) bits = false
 
 -- the definition gives them
 unfoldable pub case_holds : Case → Bool

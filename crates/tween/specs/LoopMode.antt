@@ -1,5 +1,5 @@
 -- Loop modes (loop_mode.rs; paper 01, part 2).
-use Rattle.std.specs.Prelude.{ℕ, max, Bool, true, false}
+use Rattle.std.specs.Prelude.{ℕ, max, Bool, true, false, cond, eqb}
 use Rattle.tween.specs.declared.loop_mode.Loop.{Loop}
 use Rattle.tween.specs.declared.loop_mode.Loop.TheVariants.{Once, Times, Forever, PingPong, PingPongTimes}
 
@@ -14,3 +14,26 @@ is_once (Times n) = false
 is_once Forever = false
 is_once PingPong = false
 is_once (PingPongTimes n) = false
+
+-- "mode (order of part 2)"
+unfoldable pub loop_of : ℕ → ℕ → Loop
+loop_of mode number =
+    cond (eqb mode 0) Once
+    (cond (eqb mode 1) (Times number)
+    (cond (eqb mode 2) Forever
+    (cond (eqb mode 3) PingPong (PingPongTimes number))))
+
+-- "mode (order of part 2)", and the loop number, 0 where the mode has none
+abbrev pub mode_of : Loop → ℕ
+mode_of Once = 0
+mode_of (Times n) = 1
+mode_of Forever = 2
+mode_of PingPong = 3
+mode_of (PingPongTimes n) = 4
+
+abbrev pub number_of : Loop → ℕ
+number_of Once = 0
+number_of (Times n) = n
+number_of Forever = 0
+number_of PingPong = 0
+number_of (PingPongTimes n) = n

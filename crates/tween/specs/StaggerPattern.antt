@@ -1,22 +1,32 @@
 -- Delays of staggered starts (stagger_pattern.rs; paper 01, part 3). Definitions only.
-use Rattle.std.specs.Prelude.{ℕ, zero, suc, ◌+◌, ◌-◌, ◌*◌, ◌/◌, ◌%◌, ◌^◌, min, max, ◌||◌, cond, leb, ltb, eqb, Float}
+use Rattle.std.specs.Prelude.{ℕ, zero, suc, ◌+◌, ◌-◌, ◌*◌, ◌/◌, ◌%◌, ◌^◌, min, max, ◌||◌, cond, leb, ltb, eqb, Float, Option, Some, None, Result, Ok, Err}
+use Rattle.std.specs.Int.{abs_diff}
 use Rattle.std.specs.Float.{binary32}
 use Rattle.std.specs.Float.Ieee.{add, sub, mul, div}
 use Rattle.float32.specs.Helpers.{zero_f, max_f, finite_f, from_u32}
-use Rattle.refusal.specs.Refusal.{accepted, grid_too_large}
-use Rattle.tween.specs.declared.stagger_pattern.Delay.{Delay}
+use Rattle.refusal.specs.declared.Refusal.{Refusal}
+use Rattle.refusal.specs.declared.Refusal.TheVariants.{GridTooLarge}
 use Rattle.tween.specs.declared.stagger_pattern.GridOrigin.{GridOrigin}
 use Rattle.tween.specs.declared.stagger_pattern.GridOrigin.TheVariants.{TopLeft, TopRight, BottomLeft, BottomRight, Center, Top, Bottom, Left, Right}
 use Rattle.tween.specs.declared.stagger_pattern.StaggerPattern.{StaggerPattern}
 use Rattle.tween.specs.declared.stagger_pattern.StaggerPattern.TheVariants.{Grid, Random, CenterOut, EdgesIn}
 
+-- the origins in their order, from 0 on
+unfoldable pub origin_of : ℕ → Option GridOrigin
+origin_of n =
+    cond (eqb n 0) (Some TopLeft)
+    (cond (eqb n 1) (Some TopRight)
+    (cond (eqb n 2) (Some BottomLeft)
+    (cond (eqb n 3) (Some BottomRight)
+    (cond (eqb n 4) (Some Center)
+    (cond (eqb n 5) (Some Top)
+    (cond (eqb n 6) (Some Bottom)
+    (cond (eqb n 7) (Some Left)
+    (cond (eqb n 8) (Some Right) None))))))))
+
 -- "grid sides reach 65,535"
 abbrev pub max_side : ℕ
 max_side = 65535
-
--- `abs_diff`; `-` stops at 0
-abbrev pub abs_diff : ℕ → ℕ → ℕ
-abs_diff a b = (a - b) + (b - a)
 
 -- `finite_or`
 abbrev pub finite_or : Float → Float → Float
@@ -94,17 +104,10 @@ edges_in count step index =
     let i = min index (count - 1) in
     cond (eqb count 0) zero_f (distance_delay (min i (count - 1 - i)) step)
 
--- the answer of an accepted call, and of a refused one
-abbrev pub accepted_delay : Float → Delay
-accepted_delay delay = record { refusal = accepted; delay = delay }
-
-abbrev pub refused_delay : ℕ → Delay
-refused_delay refusal = record { refusal = refusal; delay = zero_f }
-
 -- `StaggerPattern::delay`; refusal 13: "a grid side above 65,535"
-abbrev pub delay_of : StaggerPattern → ℕ → Delay
+abbrev pub delay_of : StaggerPattern → ℕ → Result Float Refusal
 delay_of (Grid cols rows origin step) index =
-    cond (ltb max_side cols || ltb max_side rows) (refused_delay grid_too_large) (accepted_delay (grid_delay cols rows origin step index))
-delay_of (Random seed min_delay max_delay) index = accepted_delay (random_delay seed min_delay max_delay index)
-delay_of (CenterOut count step) index = accepted_delay (center_out count step index)
-delay_of (EdgesIn count step) index = accepted_delay (edges_in count step index)
+    cond (ltb max_side cols || ltb max_side rows) (Err GridTooLarge) (Ok (grid_delay cols rows origin step index))
+delay_of (Random seed min_delay max_delay) index = Ok (random_delay seed min_delay max_delay index)
+delay_of (CenterOut count step) index = Ok (center_out count step index)
+delay_of (EdgesIn count step) index = Ok (edges_in count step index)

@@ -1,9 +1,11 @@
 // Delays of staggered starts (stagger_pattern.rs; paper 01, part 3).
-ghost use Rattle.std.specs.Prelude.{◌≡◌, ◌-◌, ◌*◌, ◌%◌, ◌^◌, ◌≤◌, ◌<◌, min, max};
-ghost use Rattle.tween.specs.StaggerPattern.{max_side, abs_diff, finite_or, distance_delay, from_middle, center_distance, grid_distance, grid_delay, hash, random_delay, center_out, edges_in, accepted_delay, refused_delay, delay_of};
+ghost use Rattle.std.specs.Prelude.{◌≡◌, ◌≤◌, ◌<◌};
+ghost use Rattle.tween.specs.StaggerPattern.{origin_of, max_side, finite_or, distance_delay, from_middle, center_distance, grid_distance, grid_delay, hash, random_delay, center_out, edges_in, delay_of};
+
+use refusal::Refusal;
 
 // Which cells of a grid start first.
-#[derive(Clone, Copy)]
+#[derive(Clone, Copy, PartialEq, Eq, Debug)]
 pub enum GridOrigin {
     // The top left cell starts first.
     TopLeft,
@@ -23,6 +25,27 @@ pub enum GridOrigin {
     Left,
     // The rightmost column starts first.
     Right,
+}
+
+impl GridOrigin {
+    // The origin by its number in the order above, from 0 on; none above 8.
+    #[tactic(auto, unfolding(crate::specs::StaggerPattern::origin_of))]
+    pub fn from_number(n: u32) -> Option<GridOrigin>
+        ensures { result ≡ origin_of n }
+    {
+        match n {
+            0 => Some(GridOrigin::TopLeft),
+            1 => Some(GridOrigin::TopRight),
+            2 => Some(GridOrigin::BottomLeft),
+            3 => Some(GridOrigin::BottomRight),
+            4 => Some(GridOrigin::Center),
+            5 => Some(GridOrigin::Top),
+            6 => Some(GridOrigin::Bottom),
+            7 => Some(GridOrigin::Left),
+            8 => Some(GridOrigin::Right),
+            _ => None,
+        }
+    }
 }
 
 // How the starts of several items are delayed. The same pattern and index always give the same delay.
@@ -53,41 +76,12 @@ pub enum StaggerPattern {
     },
 }
 
-// A delay in seconds, or why there is none.
-#[derive(Clone, Copy)]
-pub struct Delay {
-    pub refusal: u8,
-    pub delay: f32,
-}
-
 // The largest side of a grid: the product of two fits in a u32.
 const MAX_SIDE: u32 = 65_535;
 
-impl Delay {
-    // The answer of an accepted call.
-    fn accepted(delay: f32) -> Self
-        ensures { result ≡ accepted_delay delay }
-    {
-        Self {
-            refusal: refusal::ACCEPTED,
-            delay,
-        }
-    }
-
-    // The answer of a refused one.
-    fn refused(refusal: u8) -> Self
-        ensures { result ≡ refused_delay refusal }
-    {
-        Self {
-            refusal,
-            delay: 0.0,
-        }
-    }
-}
-
 impl StaggerPattern {
     // The delay of the item at `index`, or refusal 13 where a grid side is above the largest.
-    pub fn delay(self, index: u32) -> Delay
+    pub fn delay(self, index: u32) -> Result<f32, Refusal>
         ensures { result ≡ delay_of self index }
     {
         match self {
@@ -98,52 +92,51 @@ impl StaggerPattern {
                 step,
             } => {
                 if cols > MAX_SIDE || rows > MAX_SIDE {
-                    return Delay::refused(refusal::GRID_TOO_LARGE);
+                    return Err(Refusal::GridTooLarge);
                 }
-                Delay::accepted(grid_delay(cols, rows, origin, step, index))
+                Ok(grid_delay(cols, rows, origin, step, index))
             }
             StaggerPattern::Random {
                 seed,
                 min_delay,
                 max_delay,
-            } => Delay::accepted(random_delay(seed, min_delay, max_delay, index)),
-            StaggerPattern::CenterOut { count, step } => {
-                Delay::accepted(center_out(count, step, index))
-            }
-            StaggerPattern::EdgesIn { count, step } => Delay::accepted(edges_in(
-                count, step, index,
-            )),
+            } => Ok(random_delay(seed, min_delay, max_delay, index)),
+            StaggerPattern::CenterOut { count, step } => Ok(center_out(count, step, index)),
+            StaggerPattern::EdgesIn { count, step } => Ok(edges_in(count, step, index)),
         }
     }
 }
 
 // The arm `CenterOut` of `delay`: an index past the last counts as the last.
+#[tactic(auto, unfolding(crate::specs::StaggerPattern::center_out))]
 fn center_out(count: u32, step: f32, index: u32) -> f32
     ensures { result ≡ center_out count step index }
 {
-    let index = min(index, saturating_sub(count, 1));
+    let index = index.min(count.saturating_sub(1));
     distance_delay(center_distance(index, count), step)
 }
 
 // The arm `EdgesIn` of `delay`, likewise; with no items there is no delay.
+#[tactic(auto, unfolding(crate::specs::StaggerPattern::edges_in))]
 fn edges_in(count: u32, step: f32, index: u32) -> f32
     ensures { result ≡ edges_in count step index }
 {
     if count == 0 {
         return 0.0;
     }
-    let index = min(index, count - 1);
-    distance_delay(min(index, count - 1 - index), step)
+    let index = index.min(count - 1);
+    distance_delay(index.min(count - 1 - index), step)
 }
 
 // A side of 0 counts as 1, and an index past the last cell as the last.
+#[tactic(auto, unfolding(crate::specs::StaggerPattern::grid_delay))]
 fn grid_delay(cols: u32, rows: u32, origin: GridOrigin, step: f32, index: u32) -> f32
     requires { (cols ≤ max_side) × (rows ≤ max_side) }
     ensures { result ≡ grid_delay cols rows origin step index }
 {
-    let cols = max(cols, 1);
-    let rows = max(rows, 1);
-    let index = min(index, cols * rows - 1);
+    let cols = cols.max(1);
+    let rows = rows.max(1);
+    let index = index.min(cols * rows - 1);
     let x = index % cols;
     let y = index / cols;
     distance_delay(grid_distance(origin, cols, rows, x, y), step)
@@ -182,10 +175,13 @@ fn from_middle(index: u32, count: u32) -> u32
     requires { 0 < count }
     ensures { result ≡ from_middle index count }
 {
-    min(abs_diff(index, (count - 1) / 2), abs_diff(index, count / 2))
+    index
+        .abs_diff((count - 1) / 2)
+        .min(index.abs_diff(count / 2))
 }
 
 // Both bounds are finite and not below 0, the upper not below the lower.
+#[tactic(auto, unfolding(crate::specs::StaggerPattern::random_delay))]
 fn random_delay(seed: u32, min_delay: f32, max_delay: f32, index: u32) -> f32
     ensures { result ≡ random_delay seed min_delay max_delay index }
 {
@@ -199,11 +195,11 @@ fn random_delay(seed: u32, min_delay: f32, max_delay: f32, index: u32) -> f32
 fn hash(seed: u32, index: u32) -> u32
     ensures { result ≡ hash seed index }
 {
-    let mut x = seed ^ wrapping_mul(index, 0x9E37_79B9);
+    let mut x = seed ^ index.wrapping_mul(0x9E37_79B9);
     x ^= x >> 16;
-    x = wrapping_mul(x, 0x7FEB_352D);
+    x = x.wrapping_mul(0x7FEB_352D);
     x ^= x >> 15;
-    x = wrapping_mul(x, 0x846C_A68B);
+    x = x.wrapping_mul(0x846C_A68B);
     x ^= x >> 16;
     x
 }
@@ -220,43 +216,9 @@ fn finite_or(value: f32, fallback: f32) -> f32
 }
 
 // The delay at a distance; a step that is negative or not finite counts as 0.
+#[tactic(auto, unfolding(crate::specs::StaggerPattern::distance_delay))]
 fn distance_delay(distance: u32, step: f32) -> f32
     ensures { result ≡ distance_delay distance step }
 {
     float32::from_u32(distance) * float32::max(finite_or(step, 0.0), 0.0)
-}
-
-// `a.wrapping_mul(b)`
-fn wrapping_mul(a: u32, b: u32) -> u32
-    ensures { result ≡ (a * b) % 2 ^ 32 }
-{
-    ((a as u64) * (b as u64) % 0x1_0000_0000) as u32
-}
-
-// `a.abs_diff(b)`
-fn abs_diff(a: u32, b: u32) -> u32
-    ensures { result ≡ abs_diff a b }
-{
-    if a < b { b - a } else { a - b }
-}
-
-// `a.saturating_sub(b)`
-fn saturating_sub(a: u32, b: u32) -> u32
-    ensures { result ≡ a - b }
-{
-    if a < b { 0 } else { a - b }
-}
-
-// `a.min(b)`
-fn min(a: u32, b: u32) -> u32
-    ensures { result ≡ min a b }
-{
-    if b < a { b } else { a }
-}
-
-// `a.max(b)`
-fn max(a: u32, b: u32) -> u32
-    ensures { result ≡ max a b }
-{
-    if a < b { b } else { a }
 }

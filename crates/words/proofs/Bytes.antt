@@ -3,11 +3,10 @@ use Prim.Native.Nat.{ℕ, zero, suc, ◌+◌, ◌*◌, ◌/◌, ◌%◌, ◌^◌
 use mathlib.Core.Path.{◌≡◌, refl, ap}
 use mathlib.Core.List.{List, [], ◌∷◌, ◌++◌}
 use native.Mathlib.Nat.{pow-zero, pow-suc, div-add-mod', div-lt_iff_lt-mul, not-suc-le-zero, le_of_suc-le-suc}
-use native.Mathlib.Numerals.{add-one}
 use native.Mathlib.Omega.{arith}
 use lib.Dec.{lit<}
-use lib.ListN.{length, take, drop, get_or, drop_of_length-le}
-use lib.Seq.{drop-cons, get_or-drop}
+use lib.ListN.{length, take, drop, get_or}
+use lib.Seq.{get_or-drop}
 use Rattle.words.specs.Words.{word, bytes_of}
 
 -- every element is a byte
@@ -49,34 +48,41 @@ bytes_word (suc w) (x ∷ s) h b =
     let high : (x + 256 * word w s) / 256 ≡ word w s = omega arith in
     rw (low, high, rest)
 
--- no byte is left
-pub word_none : (w at : ℕ) (s : List ℕ) → length s ≤ at → word w (drop at s) ≡ 0
-unfolding word
-word_none zero at s h = refl
-word_none (suc w) at s h = rw (drop_of_length-le s h)
+-- ---- a word as it is read, by how many bytes are left
 
--- one byte is left
-pub word-one : (s : List ℕ) (at : ℕ) → at + 1 ≡ length s → word 2 (drop at s) ≡ get_or s at 0
+pub word_none : (s : List ℕ) → length s < 1 → word 2 s ≡ 0
 unfolding word
-word-one s at h =
-    let a : at < length s = omega arith in
-    let b : length s ≤ suc at = omega arith in
-    rw (drop-cons s at 0 a, drop_of_length-le s b) (omega arith)
+word_none [] h = refl
+word_none (a ∷ s) h = absurd (omega arith)
 
--- a word of two bytes
-pub word_two : (s : List ℕ) (at : ℕ) → at + 2 ≤ length s → word 2 (drop at s) ≡ get_or s at 0 + get_or s (at + 1) 0 * 256
+pub word_one : (s : List ℕ) → 1 ≤ length s → length s < 2 → word 2 s ≡ get_or s 0 0
 unfolding word
-word_two s at h =
-    let a : at < length s = omega arith in
-    let b : suc at < length s = omega arith in
-    rw (add-one at, drop-cons s at 0 a, drop-cons s (suc at) 0 b) (omega arith)
+word_one [] h k = absurd (omega arith)
+word_one (a ∷ []) h k = omega arith
+word_one (a ∷ b ∷ s) h k = absurd (omega arith)
+
+pub word_two : (s : List ℕ) → 2 ≤ length s → word 2 s ≡ get_or s 0 0 + get_or s 1 0 * 256
+unfolding word
+word_two [] h = absurd (omega arith)
+word_two (a ∷ []) h = absurd (omega arith)
+word_two (a ∷ b ∷ s) h = omega arith
 
 -- a word of four bytes is two of two
-pub word-four : (s : List ℕ) → word 4 s ≡ word 2 s + word 2 (drop 2 s) * 65536
+pub word_halves : (s : List ℕ) → word 4 s ≡ word 2 s + word 2 (drop 2 s) * 65536
 unfolding word
-word-four [] = refl
-word-four (a ∷ []) = omega arith
-word-four (a ∷ b ∷ s) = omega arith
+word_halves [] = refl
+word_halves (a ∷ []) = omega arith
+word_halves (a ∷ b ∷ s) = omega arith
+
+pub word_four : (s : List ℕ) → 4 ≤ length s → word 4 s ≡ get_or s 0 0 + get_or s 1 0 * 256 + get_or s 2 0 * 65536 + get_or s 3 0 * 16777216
+unfolding word
+word_four [] h = absurd (omega arith)
+word_four (a ∷ []) h = absurd (omega arith)
+word_four (a ∷ b ∷ []) h = absurd (omega arith)
+word_four (a ∷ b ∷ c ∷ []) h = absurd (omega arith)
+word_four (a ∷ b ∷ c ∷ d ∷ s) h = omega arith
+
+pub ruleset word_cases = (word_none, word_one, word_two, word_four, word_halves)
 
 pub bytes_four : (n : ℕ) → bytes_of 4 n ≡ bytes_of 2 (n % 65536) ++ bytes_of 2 (n / 65536)
 unfolding bytes_of

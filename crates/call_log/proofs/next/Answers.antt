@@ -1,40 +1,38 @@
 -- No line where none is due; else the call and its line.
 use native.Mathlib.Omega.{arith}
-use borrow.Author.Tests.{ne_eqb}
+use mathlib.Core.Path.{◌≡◌, ◌∙◌}
+use Rattle.std.proofs.Common.{rules}
+use mathlib.Core.Bool.{true}
+use borrow.Author.Tests.{eq-eqb, ne_eqb}
 use lib.ListN.{length}
-use Rattle.track.specs.Columns.{track_of}
-use Rattle.call_log.proofs.Making.{made_call, list-size, list_count, logs-none, logs-one}
+use Rattle.call_log.specs.Machine.{is_over}
+use Rattle.call_log.proofs.Batches.{log_in}
+use Rattle.call_log.proofs.Making.{rows-roomy, unwrap-left, counts, logs-none, logs-one}
+use Rattle.call_log.proofs.next.Goals.{then-not-logging-via-then-not-logging, then-not-logging-via-else-not-logging+then-none}
 use Rattle.call_log.proofs.next.Goals as goal
 
-pub returns-then-not-logging : goal.returns-then-not-logging
-returns-then-not-logging c =
+pub returns-then-not-logging-clause-logged : goal.returns-then-not-logging-clause-logged
+returns-then-not-logging-clause-logged c =
     let a = c.args in
-    logs-none (record { number = a.number; logging = a.logging; track = track_of a.head a.starts.now a.durations.now a.marks.now }) a.rest.now a.head a.at a.out.now (rw c.if-not-logging.true)
-
-pub returns-then-none : goal.returns-then-none
-returns-then-none c =
-    let a = c.args in
-    logs-none (record { number = a.number; logging = a.logging; track = track_of a.head a.starts.now a.durations.now a.marks.now }) a.rest.now a.head a.at a.out.now (rw (c.if-not-logging.false, c.if-none.true))
-
-pub called-end-requires : goal.called-end-requires
-called-end-requires c =
-    let a = c.args in
-    let t = track_of a.head a.starts.now a.durations.now a.marks.now in
-    let r = c.make-made.result in
-    let made = made_call t a.rest.now r _ a.replies.now a.list.now _ a.kinds.now _ a.amounts.now _ a.places.now _ _ _ c.requires.0 c.call_at-call.ensures c.make-made.ensures in
-    let count = list_count t a.rest.now r _ a.list.now _ c.requires.0.list made in
-    let size = list-size t a.rest.now r _ a.list.now _ c.requires.0.list made in
-    (count, omega arith, c.requires.1)
-
-pub overflow_sub-result : goal.overflow_sub-result
-overflow_sub-result c = omega (arith, c.called-end.ensures.0.ends)
+    let log = log_in a.turn a.logging a.spans a.marks.now in
+    let over : is_over log a.rest.now ≡ true =
+    elim c.then-not-logging.branch [
+      | then-not-logging-via-then-not-logging w ↦ rw w.if-not-logging.true
+      | then-not-logging-via-else-not-logging+then-none w ↦ rw (w.if-not-logging.false, eq-eqb (length a.rest.now) 0 (omega (arith, w.if-none.true)))
+    ] in
+    logs-none log a.rest.now a.turn.head a.at a.out.now over
 
 pub returns : goal.returns
 returns c =
     let a = c.args in
-    let t = track_of a.head a.starts.now a.durations.now a.marks.now in
-    let r = c.make-made.result in
-    let made = made_call t a.rest.now r _ a.replies.now a.list.now _ a.kinds.now _ a.amounts.now _ a.places.now _ _ _ c.requires.0 c.call_at-call.ensures c.make-made.ensures in
-    let called = c.called-end in
-    logs-one a.number a.logging a.head a.starts.now a.durations.now a.marks.now _ a.rest.now r _ a.list.now _ _ a.at _ a.out.now _
-    (rw c.if-not-logging.false (ne_eqb (length a.rest.now) 0 c.if-none.false)) c.requires.0.list made c.counted-number.ensures c.with_clock-head.ensures called.ensures.0 called.ensures.1
+    let t = (log_in a.turn a.logging a.spans a.marks.now).track in
+    let made = c.make_at-made.ensures in
+    let left = c.unwrap_or-left.ensures ∙ unwrap-left a.turn.head c.make_at-made.result in
+    let m = rw (← left, ← c.number_in-refusal.ensures) at made.1 in
+    let called = c.called-end.ensures in
+    record {
+      logged =
+          logs-one a.turn.number a.logging a.turn.head a.spans.starts.now a.spans.durations.now a.marks.now _ a.rest.now _ _ _ _ a.list.now _ _ a.at _ a.out.now _
+          (rw c.if-not-logging.false (ne_eqb (length a.rest.now) 0 (λ e. omega arith))) m (counts a.turn.number (search rules) c.saturating_add-number.ensures) c.with_clock.ensures called.0 called.1;
+      rows_after = (made.0, let r = rows-roomy t a.rest.now a.rows.now c.requires.0.rows m in record { kinds = r.0; amounts = r.1; places = r.2 });
+    }

@@ -1,28 +1,32 @@
--- `between` is what completes: nothing where the step does not go forward, else what the walk over the held entries lists.
+-- `between` is what completes: nothing at the early returns, else what the walk over the entries lists.
 use mathlib.Core.Path.{ap, ◌∙◌}
 use Prim.Native.Nat.{ℕ, min}
-use native.Mathlib.Omega.{arith}
-use Rattle.completions.specs.Columns.{most_entries, ends_in}
+use Rattle.completions.specs.Columns.{most_entries, first_ends}
 use Rattle.completions.proofs.Answers.{none_listed}
-use Rattle.completions.proofs.Columns.{held-within, held_same}
-use Rattle.completions.proofs.Empty.{not-forward, forward}
+use Rattle.completions.proofs.Empty.{not-forward, forward, no-base, no-period, walked}
+use Rattle.completions.proofs.between.Goals.{then-not-prev-next-via-then-not-prev-next, then-not-prev-next-via-else-not-prev-next+then-base}
 use Rattle.completions.proofs.between.Goals as goal
 
-pub list_in-requires : goal.list_in-requires
-list_in-requires c =
+pub returns-then-not-prev-next : goal.returns-then-not-prev-next
+returns-then-not-prev-next c =
     let a = c.args in
-    let most = c.least in
-    let n = c.held-n in
-    let h = held-within most.result n.result a.starts.now a.durations.now n.ensures in
-    (omega (arith, h.0, most.ensures), h.1, h.2, c.if-prev-next.true)
+    let ends = first_ends (min a.count most_entries) a.spans in
+    elim c.then-not-prev-next.branch [
+      | then-not-prev-next-via-then-not-prev-next w ↦ none_listed _ _ (not-forward a.mode ends a.base a.prev a.next w.if-not-prev-next.true)
+      | then-not-prev-next-via-else-not-prev-next+then-base w ↦
+          none_listed _ _ (forward a.mode ends a.base a.prev a.next w.if-not-prev-next.false ∙ no-base a.mode ends a.base a.prev a.next w.if-not-prev-next.false w.if-base.true)
+    ]
 
-pub returns-then-prev-next : goal.returns-then-prev-next
-returns-then-prev-next c =
+pub returns-then-walk : goal.returns-then-walk
+returns-then-walk c =
     let a = c.args in
-    let most = c.least in
-    let n = c.held-n in
-    let e = held_same most.result n.result a.starts.now a.durations.now n.ensures ∙ ap (λ (k : ℕ). ends_in k a.starts.now a.durations.now) most.ensures in
-    rw (forward a.mode (ends_in (min a.count most_entries) a.starts.now a.durations.now) a.base a.prev a.next c.if-prev-next.true, ← e) c.list_in.ensures
+    let ends = first_ends (min a.count most_entries) a.spans in
+    none_listed _ _ (forward a.mode ends a.base a.prev a.next c.if-not-prev-next.false ∙ no-period a.mode ends a.base a.prev a.next c.if-not-prev-next.false c.if-base.false _ c.over-walk.ensures c.if-walk.true)
 
 pub returns : goal.returns
-returns c = none_listed _ _ (not-forward _ _ _ _ _ c.if-prev-next.false)
+returns c =
+    let a = c.args in
+    let ends = first_ends (min a.count most_entries) a.spans in
+    let e = c.first.ensures ∙ ap (λ (k : ℕ). first_ends k a.spans) c.min.ensures in
+    rw (forward a.mode ends a.base a.prev a.next c.if-not-prev-next.false, walked a.mode ends a.base a.prev a.next c.if-not-prev-next.false c.if-base.false _ c.over-walk.ensures c.if-walk.false, ← e)
+    c.list.ensures

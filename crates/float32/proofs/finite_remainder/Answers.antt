@@ -39,7 +39,7 @@ unit_of-unit-requires c =
     let held : T (fits binary32 x) = search rules in
     let p = scale-below (to_bits binary32 x) (field_not_ones x held c.requires.0) in
     let e = c.scale_of-p.ensures in
-    let l = c.lower.ensures in
+    let l = c.min.ensures in
     omega (arith, p, e, l)
 
 pub returns : goal.returns
@@ -55,4 +55,4 @@ returns c =
     let bound : c.rest_of-digits.result ≤ 2 ^ 24 = omega (arith, c.rest_of-digits.ensures.bound) in
     rw c.from_u32.ensures
     (remainder-value x y c.unit_of-unit.result _ _ _ _ c.rest_of-digits.result _ above bound v w c.unit_of-unit.ensures
-    (rw (c.lower.ensures, ← c.digits_in.ensures, ← c.scale_of-p.ensures, ← c.digits_in-divisor.ensures, ← c.scale_of-e.ensures) c.rest_of-digits.ensures.value))
+    (rw (c.min.ensures, ← c.digits_in.ensures, ← c.scale_of-p.ensures, ← c.digits_in-divisor.ensures, ← c.scale_of-e.ensures) c.rest_of-digits.ensures.value))

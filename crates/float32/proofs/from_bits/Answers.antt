@@ -4,9 +4,9 @@ use lib.Ieee.{binary32, div, of_bits}
 use Rattle.float32.proofs.NanBits.{nan_above, no_nan_upto}
 use Rattle.float32.proofs.from_bits.Goals as goal
 
-pub returns-then-bits-gt2139095040 : goal.returns-then-bits-gt2139095040
+pub returns-then-nan : goal.returns-then-nan
 unfolding div of_bits
-returns-then-bits-gt2139095040 c = nan_above binary32 c.args.bits (omega arith)
+returns-then-nan c = nan_above binary32 c.args.bits (omega arith)
 
 pub float_from_bits-result : goal.float_from_bits-result
 float_from_bits-result c = no_nan_upto binary32 c.args.bits (omega arith)

@@ -3,7 +3,6 @@ use mathlib.Core.Path.{◌≡◌, refl, sym, subst, ◌∙◌}
 use mathlib.Core.Bool.{true, false, true≢false}
 use lib.Ieee.{Float, nan, inf, fin, binary32, rem, is_nan, div, of_bits}
 use Rattle.float32.specs.Helpers.{finite_f}
-use Rattle.float32.proofs.Nan.{ne_self}
 use Rattle.float32.proofs.NanBits.{only_nan}
 use Rattle.float32.proofs.remainder.Goals as goal
 
@@ -34,11 +33,11 @@ pub returns-then-not-is_finite : goal.returns-then-not-is_finite
 unfolding div of_bits
 returns-then-not-is_finite c = none-finite c.args.x c.args.y (sym c.is_finite.ensures ∙ c.if-not-is_finite.true)
 
-pub returns-then-y : goal.returns-then-y
-returns-then-y c =
-    let e : nan ≡ c.args.y = only_nan c.args.y (sym (ne_self c.args.y) ∙ c.if-y.true) in
+pub returns-then-is_nan : goal.returns-then-is_nan
+returns-then-is_nan c =
+    let e : nan ≡ c.args.y = only_nan c.args.y (sym c.is_nan.ensures ∙ c.if-is_nan.true) in
     subst (λ (y : Float). y ≡ rem binary32 c.args.x y) e (by-nan c.args.x)
 
 pub returns-then-not-is_finite-2 : goal.returns-then-not-is_finite-2
 returns-then-not-is_finite-2 c =
-    by-infinity c.args.x c.args.y (sym c.is_finite.ensures ∙ c.if-not-is_finite.false) (sym (ne_self c.args.y) ∙ c.if-y.false) (sym c.is_finite-2.ensures ∙ c.if-not-is_finite-2.true)
+    by-infinity c.args.x c.args.y (sym c.is_finite.ensures ∙ c.if-not-is_finite.false) (sym c.is_nan.ensures ∙ c.if-is_nan.false) (sym c.is_finite-2.ensures ∙ c.if-not-is_finite-2.true)

@@ -7,4 +7,6 @@ pub overflow_add-result : goal.overflow_add-result
 overflow_add-result c = omega (arith, (bits_put c.args.x c.requires c.put_byte-field.ensures c.to_bits.ensures c.put_hex8.ensures).ends, bits_length c.args.x)
 
 pub returns : goal.returns
-returns c = bits_put c.args.x c.requires c.put_byte-field.ensures c.to_bits.ensures c.put_hex8.ensures
+returns c =
+    let w = bits_put c.args.x c.requires c.put_byte-field.ensures c.to_bits.ensures c.put_hex8.ensures in
+    (w, omega (arith, w.ends, bits_length c.args.x))

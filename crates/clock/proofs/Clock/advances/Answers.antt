@@ -1,21 +1,9 @@
--- `advances` is its two tests.
-use mathlib.Core.Path.{◌≡◌, refl, sym, ◌∙◌}
-use mathlib.Core.Bool.{Bool, true, false, ◌&&◌}
-use Rattle.clock.specs.Clocks.{is_playing, advances}
+-- `!=` is the test that the base is not 0.
+use mathlib.Core.Path.{sym, ◌∙◌}
+use lib.Ieee.{ne}
+use Rattle.clock.specs.Clocks.{advances}
 use Rattle.clock.proofs.Clock.advances.Goals as goal
 
-and-false : (a : Bool) → (a && false) ≡ false
-and-false true = refl
-and-false false = refl
-
-and-own : (a : Bool) → (a && true) ≡ a
-and-own true = refl
-and-own false = refl
-
-pub returns-then-base : goal.returns-then-base
-unfolding advances
-returns-then-base c = rw c.if-base.true (sym (and-false (is_playing c.args.self.state)))
-
-pub returns : goal.returns
-unfolding advances
-returns c = rw c.if-base.false (c.is_playing.ensures ∙ sym (and-own (is_playing c.args.self.state)))
+pub returns-then-is_playing : goal.returns-then-is_playing
+unfolding advances ne
+returns-then-is_playing c = simp (sym c.is_playing.ensures ∙ c.if-is_playing.true)

@@ -1,20 +1,28 @@
+use mathlib.Core.Path.{◌≡◌, ap}
+use Rattle.std.proofs.Common.{arith, Some, None, Err}
+use Rattle.refusal.specs.declared.Refusal.TheVariants.{ListTooShort}
 use Rattle.track.proofs.Columns.{roomy}
+use Rattle.player.proofs.Checks.{same_slices}
 use Rattle.player.proofs.Answers.{sync-over, sync-told}
+use Rattle.player.specs.Answered.{answer_in, clock_of}
 use Rattle.player.proofs.engine.looped.Goals as goal
+
+pub returns-in_err-listed : goal.returns-in_err-listed
+returns-in_err-listed c =
+    let g = c.args in
+    let over : c.between-found.result ≡ None = grind arith in
+    let answer : c.from_residual.result ≡ Err ListTooShort = grind arith in
+    (same_slices g.rows.now, sync-over g.head g.spans.starts.now g.spans.durations.now g.marks.now g.n c.requires.0 g.base g.next c.requires.2 c.between-found.ensures over (ap answer_in answer) (ap (clock_of g.head) answer))
 
 pub apply-requires : goal.apply-requires
 apply-requires c =
     let g = c.args in
-    let pre = c.requires in
-    let wide = roomy g.head g.starts.now g.durations.now g.marks.now g.n pre.0 in
-    (wide.0, wide.1, wide.2, pre.1, pre.2, pre.3)
+    let wide = roomy g.head g.spans.starts.now g.spans.durations.now g.marks.now g.n c.requires.0 in
+    ((wide.0, wide.1, wide.2), c.requires.1)
 
-pub returns-in-Within : goal.returns-in-Within
-returns-in-Within c =
+pub returns : goal.returns
+returns c =
     let g = c.args in
-    sync-told g.head g.starts.now g.durations.now g.marks.now g.n c.requires.0 g.base g.next c.requires.4 c.between-counted.ensures c.in-Within.is c.reach_of-to.ensures c.local_time.ensures c.reached.ensures.0 c.reached.ensures.1 c.apply.ensures
-
-pub returns-in-Over : goal.returns-in-Over
-returns-in-Over c =
-    let g = c.args in
-    sync-over g.head g.starts.now g.durations.now g.marks.now g.n c.requires.0 g.base g.next c.requires.4 c.between-counted.ensures c.in-Over.is c.refused.ensures.0 c.refused.ensures.1
+    let within : c.between-found.result ≡ Some c.in_ok-listed.listed = grind arith in
+    let x = c.apply.ensures in
+    (x.1.0, sync-told g.head g.spans.starts.now g.spans.durations.now g.marks.now g.n c.requires.0 g.base g.next c.requires.2 c.between-found.ensures within c.reach_of-to.ensures c.local_time.ensures c.reached.ensures.0 c.reached.ensures.1 (x.0, x.1.1))

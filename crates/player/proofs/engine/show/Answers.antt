@@ -31,22 +31,22 @@ use Rattle.player.proofs.engine.show.Goals as goal
 pub tick-requires : goal.tick-requires
 tick-requires c =
     let g = c.args in
-    let ss = g.starts.now in
-    let ds = g.durations.now in
+    let ss = g.spans.starts.now in
+    let ds = g.spans.durations.now in
     let ms = g.marks.now in
     let pre = c.requires in
     let wide = roomy (counted_at g.head g.n) ss ds ms g.n pre.0 in
     let es = first_of g.n ss ds ms in
     let long : length es ≡ g.n = length-first g.n ss ds ms wide.0 wide.1 wide.2 in
     let most = newly_most 0 es (ticks c.min-from.result c.reach_of-to.result.elapsed es (replicate most_entries 1)) in
-    record { n_in_bounds = (wide.0, wide.1, wide.2, pre.1, pre.2, pre.3); n_le_most_entries = (wide.3, wide.3, omega (arith, long, most, wide.3)) }
+    record { in_bounds = ((wide.0, wide.1, wide.2), pre.1, wide.3, wide.3); room = omega (arith, long, most, wide.3) }
 
-pub returns-then-both : goal.returns-then-both
+pub returns-then-ticks : goal.returns-then-ticks
 unfolding advanced_to
-returns-then-both c =
+returns-then-ticks c =
     let g = c.args in
-    let ss = g.starts.now in
-    let ds = g.durations.now in
+    let ss = g.spans.starts.now in
+    let ds = g.spans.durations.now in
     let ms = g.marks.now in
     let h = counted_at g.head g.n in
     let all = c.requires.0 in
@@ -54,31 +54,31 @@ returns-then-both c =
     let eb = based h ss ds ms g.n all c.base-base.ensures in
     let next = c.next_elapsed-next.ensures ∙ ap (λ (d : Clock). next_elapsed d g.dt) (sym (clock-own h ss ds ms)) in
     let to = c.reach_of-to.ensures ∙ ap (λ (m : Loop). reach_of m c.base-base.result c.next_elapsed-next.result) (sym (mode-own h ss ds ms)) in
-    let tests = and-true c.advances-advances.result c.is_once.result (sym c.both.ensures ∙ c.if-both.true) in
+    let tests = and-true c.advances-advances.result c.is_once-once.result (c.if-ticks.true) in
     let on = ap (λ (d : Clock). advances d c.base-base.result) (clock-own h ss ds ms) ∙ sym c.advances-advances.ensures ∙ tests.0 in
-    let once = ap is_once (mode-own h ss ds ms) ∙ sym c.is_once.ensures ∙ tests.1 in
+    let once = ap is_once (mode-own h ss ds ms) ∙ sym c.is_once-once.ensures ∙ tests.1 in
     let from = c.min-from.ensures ∙ ap (λ (d : Clock). min_f d.elapsed c.base-base.result) (sym (clock-own h ss ds ms)) in
     let course = plays t g.dt [] eb on (ticks-on t g.dt [] eb on next to once) in
     let end = c.reach_of-to.result.elapsed in
     let rs : List ℕ = replicate most_entries 1 in
     let rows = ticks-rows c.min-from.result end (live t) rs [] ∙ ap (λ (x : Float). rows_of (ticks x end (live t) [])) from in
-    shown h ss ds ms g.n all g.dt course (λ (es : List Entry). rows_of (ticks c.min-from.result end es rs)) rows c.tick.ensures.sent_to.1
+    (c.tick.ensures.sent_to.1.0, shown h ss ds ms g.n all g.dt course (λ (es : List Entry). rows_of (ticks c.min-from.result end es rs)) rows c.tick.ensures.sent_to.1.1)
 
 pub apply-requires : goal.apply-requires
 apply-requires c =
     let g = c.args in
-    let ss = g.starts.now in
-    let ds = g.durations.now in
+    let ss = g.spans.starts.now in
+    let ds = g.spans.durations.now in
     let ms = g.marks.now in
     let pre = c.requires in
     let wide = roomy (counted_at g.head g.n) ss ds ms g.n pre.0 in
-    (wide.0, wide.1, wide.2, pre.1, pre.2, pre.3)
+    ((wide.0, wide.1, wide.2), pre.1)
 
 pub returns : goal.returns
 returns c =
     let g = c.args in
-    let ss = g.starts.now in
-    let ds = g.durations.now in
+    let ss = g.spans.starts.now in
+    let ds = g.spans.durations.now in
     let ms = g.marks.now in
     let h = counted_at g.head g.n in
     let all = c.requires.0 in
@@ -87,7 +87,7 @@ returns c =
     let next = c.next_elapsed-next.ensures ∙ ap (λ (d : Clock). next_elapsed d g.dt) (sym (clock-own h ss ds ms)) in
     let to = c.reach_of-to.ensures ∙ ap (λ (m : Loop). reach_of m c.base-base.result c.next_elapsed-next.result) (sym (mode-own h ss ds ms)) in
     let on = c.advances-advances.ensures ∙ ap (λ (d : Clock). advances d c.base-base.result) (sym (clock-own h ss ds ms)) in
-    let once = c.is_once.ensures ∙ ap is_once (sym (mode-own h ss ds ms)) in
-    let off : (c.advances-advances.result && is_once t.looping) ≡ false = ap (λ (b : Bool). c.advances-advances.result && b) (sym once) ∙ sym c.both.ensures ∙ c.if-both.false in
+    let once = c.is_once-once.ensures ∙ ap is_once (sym (mode-own h ss ds ms)) in
+    let off : (c.advances-advances.result && is_once t.looping) ≡ false = ap (λ (b : Bool). c.advances-advances.result && b) (sym once) ∙ c.if-ticks.false in
     let rule = c.advance_rule-rule.ensures ∙ ap (λ (m : Loop). advance_rule c.advances-advances.result m c.base-base.result c.reach_of-to.result.elapsed) (sym (mode-own h ss ds ms)) in
-    shown h ss ds ms g.n all g.dt refl (λ (es : List Entry). rows_of (map (ruled c.advance_rule-rule.result) es)) (sym (rows_ruled t g.dt [] c.advances-advances.result eb on next to off rule)) c.apply.ensures.1
+    (c.apply.ensures.1.0, shown h ss ds ms g.n all g.dt refl (λ (es : List Entry). rows_of (map (ruled c.advance_rule-rule.result) es)) (sym (rows_ruled t g.dt [] c.advances-advances.result eb on next to off rule)) c.apply.ensures.1.1)

@@ -1,4 +1,4 @@
-use Prim.Native.Nat.{◌-◌, ◌≤◌}
+use Prim.Native.Nat.{◌≤◌}
 use lib.ListN.{length}
 use Rattle.track.specs.Updates.{ticks}
 use Rattle.track.proofs.Ticks.{Listing}
@@ -11,8 +11,5 @@ abbrev pub invariant-loop-i : goal.invariant-loop-i
 invariant-loop-i l =
     (l.n ≤ most_entries)
     × (l.n ≤ length l.replies)
-    × Kept l.n (ticks l.prev l.next (first_of l.n l.starts l.durations l.initial.marks) l.replies) l.starts l.durations l.initial.marks l.initial.kinds l.initial.amounts l.initial.places l.marks l.kinds l.amounts l.places l.i
-    × Listing (first_of l.n l.starts l.durations l.initial.marks) (ticks l.prev l.next (first_of l.n l.starts l.durations l.initial.marks) l.replies) l.initial.list l.list l.listed l.i
-
-abbrev pub decreases-loop-i : goal.decreases-loop-i
-decreases-loop-i l = l.n - l.i
+    × Kept l.n (ticks l.prev l.next (first_of l.n l.spans.starts.now l.spans.durations.now l.initial.marks) l.replies) l.spans.starts.now l.spans.durations.now l.initial.marks l.initial.kinds l.initial.amounts l.initial.places l.marks l.kinds l.amounts l.places l.i
+    × Listing (first_of l.n l.spans.starts.now l.spans.durations.now l.initial.marks) (ticks l.prev l.next (first_of l.n l.spans.starts.now l.spans.durations.now l.initial.marks) l.replies) l.initial.list l.list l.listed l.i

@@ -1,7 +1,5 @@
 -- Four bytes and two words, one after the other.
-use Prim.Native.Nat.{ℕ, ◌+◌, ◌≤◌}
-use mathlib.Core.List.{List, [], ◌∷◌}
-use lib.ListN.{length}
+use mathlib.Core.List.{[], ◌∷◌}
 use mathlib.Core.Path.{refl}
 use native.Mathlib.Omega.{arith}
 use Rattle.sheet_format.specs.Write.{header_bytes}
@@ -11,8 +9,5 @@ use Rattle.sheet_format.proofs.header.put_header.Goals as goal
 pub returns : goal.returns
 unfolding header_bytes
 returns c =
-    let old = c.args.room.now in
-    let room : 0 + 12 ≤ length old = omega (arith, c.requires) in
-    let four : List ℕ = 1 ∷ c.args.n ∷ c.mode_of.result ∷ 0 ∷ [] in
-    rw (← c.mode_of.ensures, ← c.number_of.ensures)
-    (put_at_twelve four _ _ 0 4 8 old _ _ _ refl c.put_four.ensures c.put_u32.ensures c.put_u32-2.ensures refl refl room)
+    rw (← c.mode.ensures, ← c.number.ensures)
+    (put_at_twelve (1 ∷ c.args.n ∷ c.mode.result ∷ 0 ∷ []) _ _ _ _ 0 4 8 _ _ _ _ refl c.to_le_bytes.ensures c.to_le_bytes-2.ensures c.put.ensures c.put-2.ensures c.put-3.ensures refl refl (omega arith))

@@ -7,7 +7,8 @@ use Rattle.sheet_format.specs.Check.{pairs_number}
 use Rattle.sheet_format.proofs.pairs.check_pairs.Given as goal
 
 abbrev pub invariant-loop-i : goal.invariant-loop-i
-invariant-loop-i l = (l.i ≤ l.n) × (l.at ≡ header_size + 4 * l.i) × (l.offset ≤ labels_at l.n + 24 * l.i) × (pairs_number (length l.sheet) (labels_at l.n) l.n (drop header_size l.sheet) ≡ pairs_number (length l.sheet) l.offset (l.n - l.i) (drop l.at l.sheet))
-
-abbrev pub decreases-loop-i : goal.decreases-loop-i
-decreases-loop-i l = l.n - l.i
+invariant-loop-i l =
+    record {
+      near : l.offset ≤ labels_at l.n + 24 * l.i;
+      left : pairs_number (length l.sheet) (labels_at l.n) l.n (drop header_size l.sheet) ≡ pairs_number (length l.sheet) l.offset (l.n - l.i) (drop (header_size + 4 * l.i) l.sheet);
+    }

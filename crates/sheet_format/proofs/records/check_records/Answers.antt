@@ -1,26 +1,26 @@
 -- What the records so far leave to check: those from i on.
-use Prim.Native.Nat.{◌-◌}
+use Prim.Native.Nat.{◌+◌, ◌*◌}
 use mathlib.Core.Path.{◌≡◌, sym, ◌∙◌}
 use native.Mathlib.Omega.{arith}
-use borrow.Author.Tests.{eq-eqb, ne_eqb}
+use borrow.Author.Rules.{rules}
+use Rattle.refusal.specs.Refusal.{number, number_in}
+use Rattle.sheet_format.specs.Check.{record_number}
 use Rattle.sheet_format.proofs.Turns.{records-bad, records-more, records-end}
 use Rattle.sheet_format.proofs.records.check_records.Goals as goal
 
-pub loop-i-init : goal.loop-i-init
-loop-i-init c =
-    let n = c.args.n in
-    let z : n - 0 ≡ n = omega arith in
-    (omega arith, omega (arith, c.records_at-at.ensures), rw (z, c.records_at-at.ensures))
-
-pub returns-then-refusal-ne-ACCEPTED : goal.returns-then-refusal-ne-ACCEPTED
-returns-then-refusal-ne-ACCEPTED c =
-    let e = c.check_record-refusal.ensures in
-    e ∙ sym (c.loop-i.invariant.2 ∙ records-bad c.args.n c.loop-i.i _ c.loop-i.at _ (omega arith) (rw (← e) (ne_eqb _ _ c.if-refusal-ne-ACCEPTED.true)))
+pub returns-in_err-check : goal.returns-in_err-check
+unfolding record_number
+returns-in_err-check c =
+    let e : number_in c.from_residual.result ≡ number c.in_err-check.field-0.0 = search rules in
+    let r = rw c.record_at-record.ensures at c.in_err-check.ensures in
+    e ∙ sym (c.loop-i.invariant ∙ records-bad c.args.n c.loop-i.i _ (c.records_at-start.result + 12 * c.loop-i.i) _ c.in_err-check.field-0.0 (omega arith) r)
 
 pub loop-i-preserved : goal.loop-i-preserved
+unfolding record_number
 loop-i-preserved c =
-    let e = c.check_record-refusal.ensures in
-    (omega arith, omega arith, c.loop-i.invariant.2 ∙ records-more c.args.n c.loop-i.i _ c.loop-i.at _ (omega arith) (rw (← e) (eq-eqb _ _ c.if-refusal-ne-ACCEPTED.false)))
+    let start = c.records_at-start.result in
+    let r = rw c.record_at-record.ensures at c.in_ok-check.ensures in
+    c.loop-i.invariant ∙ records-more c.args.n c.loop-i.i _ (start + 12 * c.loop-i.i) _ (start + 12 * (c.loop-i.i + 1)) (omega arith) (omega arith) r
 
 pub returns : goal.returns
-returns c = sym (c.loop-i.invariant.2 ∙ records-end c.args.n c.loop-i.i _ c.loop-i.at _ (omega arith))
+returns c = sym (c.loop-i.invariant ∙ records-end c.args.n c.loop-i.i _ (c.records_at-start.result + 12 * c.loop-i.i) _ (omega arith))

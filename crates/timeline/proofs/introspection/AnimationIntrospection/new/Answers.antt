@@ -4,4 +4,4 @@ use Rattle.timeline.proofs.introspection.AnimationIntrospection.new.Goals as goa
 
 pub returns : goal.returns
 unfolding introspection
-returns c = rw (c.clamp-share.ensures, c.max-secs.ensures, c.known_duration-known.ensures)
+returns c = rw (c.clamp.ensures, c.max.ensures, c.known_duration.ensures)

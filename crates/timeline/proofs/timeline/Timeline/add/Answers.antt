@@ -4,4 +4,4 @@ use Rattle.timeline.proofs.timeline.Timeline.add.Goals as goal
 
 pub returns : goal.returns
 unfolding step
-returns c = rw (← c.resolve_start-start.ensures) c.push.ensures
+returns c = rw (← c.resolve_start.ensures) c.push.ensures

@@ -4,4 +4,4 @@ use Rattle.timeline.proofs.timeline.Timeline.add_at_label.Goals as goal
 
 pub returns : goal.returns
 unfolding step
-returns c = rw (← c.named_start-start.ensures) c.push.ensures
+returns c = rw (← c.named_start.ensures) c.push.ensures

@@ -2,4 +2,4 @@
 use Rattle.timeline.proofs.timeline.Timeline.grown.Goals as goal
 
 pub returns : goal.returns
-returns c = rw (c.label_of.ensures, c.max-length.ensures)
+returns c = rw (c.new.ensures, c.max.ensures)

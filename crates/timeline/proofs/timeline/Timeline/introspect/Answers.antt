@@ -5,5 +5,5 @@ use Rattle.timeline.proofs.timeline.Timeline.introspect.Goals as goal
 pub returns : goal.returns
 unfolding introspected
 returns c =
-    rw (← c.progress-progress.ensures, ← c.elapsed-elapsed.ensures, ← c.playback_duration-duration.ensures, ← c.state-state.ensures, ← c.playback_state-playback.ensures)
+    rw (← c.progress.ensures, ← c.elapsed.ensures, ← c.playback_duration.ensures, ← c.state.ensures, ← c.playback_state.ensures)
     c.new.ensures

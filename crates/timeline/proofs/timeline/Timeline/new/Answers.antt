@@ -4,4 +4,4 @@ use Rattle.timeline.proofs.timeline.Timeline.new.Goals as goal
 
 pub returns : goal.returns
 unfolding empty
-returns c = rw (c.new-track.ensures, c.label_of-none.ensures)
+returns c = rw (c.new.ensures, c.new-2.ensures)

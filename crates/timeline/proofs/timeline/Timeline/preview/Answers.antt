@@ -1,6 +1,6 @@
 -- `preview` is the step that `Preview` says.
 use mathlib.Core.Path.{◌≡◌, refl}
-use borrow.Author.Rules.{rules}
+use Rattle.std.proofs.Common.{rules}
 use lib.ListN.{length}
 use Rattle.steps.specs.Times.{max_entries}
 use Rattle.steps.proofs.Lists.{unmapped}
@@ -13,4 +13,5 @@ returns c =
     let t = c.args.self in
     let own = c.well_formed.0.0 in
     let long : length t.track.entries ≡ max_entries = search (unmapped, rules) in
-    door-shows t long (Preview _ _) refl c.lay_out-head.ensures _ _ _ _ _ _ c.preview.ensures
+    let x = c.preview.ensures in
+    (x.0, door-shows t long (Preview _ _) refl c.of-c.ensures _ _ _ _ _ _ x.1)

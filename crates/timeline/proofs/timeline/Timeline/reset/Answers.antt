@@ -1,16 +1,28 @@
 -- `reset` is the step that `Reset` says.
 use mathlib.Core.Path.{◌≡◌, refl}
-use borrow.Author.Rules.{rules}
+use Rattle.std.proofs.Common.{rules, Ok, Err}
 use lib.ListN.{length}
 use Rattle.steps.specs.Times.{max_entries}
 use Rattle.steps.proofs.Lists.{unmapped}
 use Rattle.track.specs.Calls.{Reset}
-use Rattle.timeline.proofs.Doors.{door-moves}
+use Rattle.timeline.proofs.Doors.{door-moves, door-refuses}
 use Rattle.timeline.proofs.timeline.Timeline.reset.Goals as goal
+
+pub returns-in_err-clock : goal.returns-in_err-clock
+returns-in_err-clock c =
+    let t = c.args.self in
+    let own = c.well_formed.0.0 in
+    let long : length t.track.entries ≡ max_entries = search (unmapped, rules) in
+    let why : c.reset.result ≡ Err c.in_err-clock.field-0.0 = search rules in
+    let answer : c.from_residual.result ≡ Err c.in_err-clock.field-0.0 = search rules in
+    let x = c.reset.ensures in
+    (x.0, rw answer (door-refuses t long (Reset _) refl c.of.ensures _ _ _ _ _ _ _ (rw why at x.1)))
 
 pub returns : goal.returns
 returns c =
     let t = c.args.self in
     let own = c.well_formed.0.0 in
     let long : length t.track.entries ≡ max_entries = search (unmapped, rules) in
-    door-moves t long (Reset _) refl c.lay_out-head.ensures _ _ _ _ _ _ _ _ c.reset-m.ensures c.left-timeline.ensures
+    let passes : c.reset.result ≡ Ok c.in_ok-clock.clock = search rules in
+    let x = c.reset.ensures in
+    (x.0, door-moves t long (Reset _) refl c.of.ensures _ _ _ _ _ _ _ _ (rw passes at x.1) c.left.ensures)

@@ -16,7 +16,7 @@ returns-in-End c = rw c.in-End.is c.duration.ensures
 
 pub returns-in-Label : goal.returns-in-Label
 unfolding resolve_start
-returns-in-Label c = rw c.in-Label.is c.like_start.ensures
+returns-in-Label c = rw (c.in-Label.is, ← c.live_labels.ensures, ← c.find_like.ensures) c.start_found.ensures
 
 pub returns-in-Offset : goal.returns-in-Offset
 unfolding resolve_start

@@ -5,4 +5,4 @@ use Rattle.timeline.proofs.timeline.Timeline.resume.Goals as goal
 
 pub returns : goal.returns
 unfolding step track_step
-returns c = rw (c.with_clock.ensures, c.resumed-clock.ensures)
+returns c = rw (c.with_clock.ensures, c.resumed.ensures)

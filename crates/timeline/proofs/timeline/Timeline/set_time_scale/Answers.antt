@@ -5,4 +5,4 @@ use Rattle.timeline.proofs.timeline.Timeline.set_time_scale.Goals as goal
 
 pub returns : goal.returns
 unfolding step track_step
-returns c = rw (c.with_clock.ensures, c.scaled-clock.ensures)
+returns c = rw (c.with_clock.ensures, c.scaled.ensures)

@@ -4,4 +4,4 @@ use Rattle.track.proofs.track.Playhead.playback_duration.Goals as goal
 
 pub returns : goal.returns
 unfolding track_of
-returns c = rw (c.run_of.ensures, c.duration-base.ensures)
+returns c = rw (c.run_of.ensures, c.duration.ensures)

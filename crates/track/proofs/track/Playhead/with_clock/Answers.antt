@@ -2,4 +2,4 @@
 use Rattle.track.proofs.track.Playhead.with_clock.Goals as goal
 
 pub returns : goal.returns
-returns c = rw c.kept-c.ensures
+returns c = rw c.kept.ensures

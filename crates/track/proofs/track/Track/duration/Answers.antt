@@ -15,4 +15,4 @@ returns c =
     let k = c.args.self in
     let long : length k.entries ≡ max_entries = search (unmapped, rules) in
     let few : length (live k) ≤ max_entries = omega (arith, long, length-take k.count k.entries) in
-    laid_base k max_entries few c.lay_out-head.ensures c.base.ensures
+    laid_base k max_entries few c.of-c.ensures c.base.ensures

@@ -10,4 +10,4 @@ pub returns : goal.returns
 returns c =
     let k = c.args.self in
     let h : length k.entries ≡ 64 = search (unmapped, rules) in
-    omega (arith, h, c.least.ensures, length-take k.count k.entries)
+    omega (arith, h, c.min.ensures, length-take k.count k.entries)

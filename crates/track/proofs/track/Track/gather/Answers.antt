@@ -1,5 +1,5 @@
 -- `gather` lays the entries of the columns over those of the track, as many as fit.
-use Prim.Native.Nat.{ℕ, ◌+◌, ◌-◌, ◌<◌}
+use Prim.Native.Nat.{◌<◌}
 use mathlib.Core.Path.{◌≡◌, refl, ◌∙◌}
 use native.Mathlib.Omega.{arith}
 use borrow.Author.Rules.{rules}
@@ -13,22 +13,16 @@ use Rattle.track.proofs.Columns.{counted, roomy}
 use Rattle.track.proofs.Laid.{gathers, gathers-at, gathered}
 use Rattle.track.proofs.track.Track.gather.Goals as goal
 
--- a turn less is left
-
-fewer : (n i : ℕ) → i < n → n - (i + 1) < n - i
-fewer n i h = omega arith
-
 pub loop-i-init : goal.loop-i-init
 loop-i-init c =
     let g = c.args in
-    let ss = g.starts.now in
-    let ds = g.durations.now in
+    let ss = g.spans.starts.now in
+    let ds = g.spans.durations.now in
     let ms = g.marks.now in
     let long : length g.self.entries ≡ max_entries = search (unmapped, rules) in
-    let all = counted g.head ss ds ms c.entries_in-all.ensures in
+    let all = counted g.head ss ds ms c.entries.ensures in
     let room = roomy g.head ss ds ms _ all in
-    let n = c.least-n.ensures in (
-      omega arith,
+    let n = c.min-n.ensures in (
       omega (arith, n, all, length-take max_entries (live (track_of g.head ss ds ms))),
       omega (arith, n),
       omega (arith, n, room.0),
@@ -39,38 +33,34 @@ loop-i-init c =
       refl,
     )
 
-pub loop-i-smaller : goal.loop-i-smaller
-loop-i-smaller c = fewer _ _ c.loop-i-test.true
-
 pub loop-i-preserved : goal.loop-i-preserved
 loop-i-preserved c =
     let g = c.args in
-    let ss = g.starts.now in
-    let ds = g.durations.now in
+    let ss = g.spans.starts.now in
+    let ds = g.spans.durations.now in
     let ms = g.marks.now in
     let es = gathers g.head ss ds ms in
     let l = c.loop-i in
     let i = l.i in
     let v = l.invariant in
-    let all = counted g.head ss ds ms c.entries_in-all.ensures in
+    let all = counted g.head ss ds ms c.entries.ensures in
     let h : i < length es = omega arith in
     let here = gathers-at g.head ss ds ms _ all i h in (
-      omega arith,
+      v.0,
       v.1,
       v.2,
       v.3,
       v.4,
       v.5,
-      v.6,
-      length-set l.entries i _ ∙ v.7,
-      front-more i es g.self.entries l.entries _ no_entry h (omega arith) here v.8,
+      length-set l.self.entries i _ ∙ v.6,
+      front-more i es g.self.entries l.self.entries _ no_entry h (omega arith) here v.7,
     )
 
 pub returns : goal.returns
 returns c =
     let g = c.args in
-    let es = gathers g.head g.starts.now g.durations.now g.marks.now in
+    let es = gathers g.head g.spans.starts.now g.spans.durations.now g.marks.now in
     let l = c.loop-i in
     let v = l.invariant in
     let end : l.i ≡ length es = omega arith in
-    gathered g.head g.starts.now g.durations.now g.marks.now g.self _ _ v.1 (front-all l.i es g.self.entries l.entries end v.8)
+    gathered g.head g.spans.starts.now g.spans.durations.now g.marks.now g.self _ _ v.0 (front-all l.i es g.self.entries l.self.entries end v.7)

@@ -1,5 +1,5 @@
 -- `gather` lays the entries of the columns over those of the track, as many as fit.
-use Prim.Native.Nat.{◌-◌, ◌≤◌}
+use Prim.Native.Nat.{◌≤◌}
 use mathlib.Core.Path.{◌≡◌}
 use lib.ListN.{length}
 use Rattle.steps.specs.Times.{max_entries}
@@ -9,15 +9,11 @@ use Rattle.track.proofs.track.Track.gather.Given as goal
 
 abbrev pub invariant-loop-i : goal.invariant-loop-i
 invariant-loop-i l =
-    (l.i ≤ l.n)
-    × (l.n ≡ length (gathers l.head l.starts l.durations l.marks))
+    (l.n ≡ length (gathers l.head l.spans.starts.now l.spans.durations.now l.marks))
     × (l.n ≤ max_entries)
-    × (l.n ≤ length l.starts)
-    × (l.n ≤ length l.durations)
+    × (l.n ≤ length l.spans.starts.now)
+    × (l.n ≤ length l.spans.durations.now)
     × (l.n ≤ length l.marks)
-    × (length l.initial.entries ≡ max_entries)
-    × (length l.entries ≡ max_entries)
-    × (l.entries ≡ front l.i (gathers l.head l.starts l.durations l.marks) l.initial.entries)
-
-abbrev pub decreases-loop-i : goal.decreases-loop-i
-decreases-loop-i l = l.n - l.i
+    × (length l.fn.self.entries ≡ max_entries)
+    × (length l.self.entries ≡ max_entries)
+    × (l.self.entries ≡ front l.i (gathers l.head l.spans.starts.now l.spans.durations.now l.marks) l.fn.self.entries)

@@ -27,11 +27,10 @@ loop-i-init c =
     let long : length k.entries ≡ max_entries = search (unmapped, rules) in
     let live-long = length-take k.count k.entries in
     let es-long = length-take (min (length ss) (min (length ds) (length ms))) (live k) in
-    let n = c.least-n.ensures in
+    let n = c.min-n.ensures in
     let lives = c.entry_count.ensures in
-    let room = c.least-room.ensures in
-    let room2 = c.least.ensures in (
-      omega arith,
+    let room = c.min-room.ensures in
+    let room2 = c.min.ensures in (
       omega (arith, n, lives, room, room2, es-long),
       omega (arith, n, lives, live-long, long),
       long,
@@ -52,13 +51,12 @@ loop-i-preserved c =
     let h : i < length es = omega arith in
     let h' : i < length (live k) = omega (arith, length-take room (live k)) in
     let here = sym (part_at room (live k) i no_entry h ∙ part_at k.count k.entries i no_entry h') in (
-      omega arith,
+      v.0,
       v.1,
       v.2,
-      v.3,
-      column-more (λ (e : Entry). e.start) es i _ _ _ nan h here v.4,
-      column-more (λ (e : Entry). e.duration) es i _ _ _ nan h here v.5,
-      column-more (λ (e : Entry). e.done) es i _ _ _ false h here v.6,
+      column-more (λ (e : Entry). e.start) es i _ _ _ nan h here v.3,
+      column-more (λ (e : Entry). e.duration) es i _ _ _ nan h here v.4,
+      column-more (λ (e : Entry). e.done) es i _ _ _ false h here v.5,
     )
 
 pub returns : goal.returns
@@ -69,10 +67,10 @@ returns c =
     let l = c.loop-i in
     let v = l.invariant in
     let end : l.i ≡ length es = omega arith in
-    let head = ap {B = Playhead} (λ (n : ℕ). record { count = n; clock = k.clock; looping = k.looping }) v.1 in
-    let starts = column-all (λ (e : Entry). e.start) es l.i _ _ end v.4 in
-    let durations = column-all (λ (e : Entry). e.duration) es l.i _ _ end v.5 in
-    let marks = column-all (λ (e : Entry). e.done) es l.i _ _ end v.6 in
+    let head = ap {B = Playhead} (λ (n : ℕ). record { count = n; clock = k.clock; looping = k.looping }) v.0 in
+    let starts = column-all (λ (e : Entry). e.start) es l.i _ _ end v.3 in
+    let durations = column-all (λ (e : Entry). e.duration) es l.i _ _ end v.4 in
+    let marks = column-all (λ (e : Entry). e.done) es l.i _ _ end v.5 in
     record {
       head = head;
       starts = starts;

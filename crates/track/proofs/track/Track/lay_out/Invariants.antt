@@ -1,5 +1,5 @@
 -- `lay_out` writes the live entries over the columns, as many as these take.
-use Prim.Native.Nat.{◌≤◌, ◌-◌, min}
+use Prim.Native.Nat.{◌≤◌, min}
 use mathlib.Core.Path.{◌≡◌}
 use mathlib.Core.Bool.{Bool}
 use mathlib.Core.List.{List}
@@ -19,13 +19,9 @@ taken k ss ds ms = take (min (length ss) (min (length ds) (length ms))) (live k)
 abbrev pub invariant-loop-i : goal.invariant-loop-i
 invariant-loop-i l =
     let es = taken l.self l.initial.starts l.initial.durations l.initial.marks in
-    (l.i ≤ l.n)
-    × (l.n ≡ length es)
+    (l.n ≡ length es)
     × (l.n ≤ max_entries)
-    × (length l.entries ≡ max_entries)
+    × (length l.self.entries ≡ max_entries)
     × Column (λ (e : Entry). e.start) es l.i l.initial.starts l.starts
     × Column (λ (e : Entry). e.duration) es l.i l.initial.durations l.durations
     × Column (λ (e : Entry). e.done) es l.i l.initial.marks l.marks
-
-abbrev pub decreases-loop-i : goal.decreases-loop-i
-decreases-loop-i l = l.n - l.i

@@ -2,12 +2,14 @@
 use Prim.Native.Nat.{◌<◌}
 use mathlib.Core.Path.{◌≡◌, refl, ap, sym, ◌∙◌}
 use mathlib.Core.Bool.{false}
+use mathlib.Core.List.{List}
 use native.Mathlib.Omega.{arith}
 use borrow.Author.Rules.{rules}
-use lib.ListN.{length, get_or, length-set, length-take}
+use lib.ListN.{length, get_or, set, length-set, length-take}
 use Rattle.steps.specs.declared.Entry.{Entry}
 use Rattle.steps.specs.Times.{max_entries}
 use Rattle.steps.proofs.Lists.{unmapped, part_at, front-more, front_at, front-all}
+use Rattle.track.specs.declared.track.Track.{Track}
 use Rattle.track.specs.Tracks.{live, marked, marks as marks_on}
 use Rattle.track.proofs.Marks.{no_entry, length_marked, marks-at}
 use Rattle.track.proofs.track.Track.with_marks.Goals as goal
@@ -18,16 +20,16 @@ loop-i-init c =
     let k = g.self in
     let ms = g.marks.now in
     let long : length k.entries ≡ max_entries = search (unmapped, rules) in
-    let n = c.least-n.ensures in
+    let n = c.min-n.ensures in
     let lives = c.entry_count.ensures in
     let each = length_marked (live k) ms in (
-      omega arith,
       omega (arith, n, lives, each),
       omega (arith, n, lives),
       omega (arith, n),
       omega (arith, n, lives, long, length-take k.count k.entries),
       long,
       long,
+      refl,
       refl,
     )
 
@@ -42,17 +44,17 @@ loop-i-preserved c =
     let v = l.invariant in
     let h : i < length es = omega arith in
     let h' : i < length (live k) = omega arith in
-    let read : get_or l.entries i no_entry ≡ get_or (live k) i no_entry =
-    front_at i es k.entries l.entries no_entry (omega arith) (omega arith) v.7 ∙ sym (part_at k.count k.entries i no_entry h') in
+    let read : get_or l.self.entries i no_entry ≡ get_or (live k) i no_entry =
+    front_at i es k.entries l.self.entries no_entry (omega arith) (omega arith) v.6 ∙ sym (part_at k.count k.entries i no_entry h') in
     let here = ap (λ (e : Entry). marked e (get_or ms i false)) read ∙ sym (marks-at (live k) ms i h' (omega arith)) in (
-      omega arith,
+      v.0,
       v.1,
       v.2,
       v.3,
       v.4,
-      v.5,
-      length-set l.entries i _ ∙ v.6,
-      front-more i es k.entries l.entries _ no_entry h (omega arith) here v.7,
+      length-set l.self.entries i _ ∙ v.5,
+      front-more i es k.entries l.self.entries _ no_entry h (omega arith) here v.6,
+      ap (λ (q : Track). record q { entries = set l.self.entries i (marked (get_or l.self.entries i no_entry) (get_or ms i false)) }) v.7,
     )
 
 pub returns : goal.returns
@@ -62,4 +64,5 @@ returns c =
     let l = c.loop-i in
     let v = l.invariant in
     let end : l.i ≡ length (marks_on (live k) g.marks.now) = omega arith in
-    rw (front-all l.i (marks_on (live k) g.marks.now) k.entries l.entries end v.7)
+    let all = front-all l.i (marks_on (live k) g.marks.now) k.entries l.self.entries end v.6 in
+    ap (λ (q : Track). record q { clock = g.clock }) v.7 ∙ ap (λ (es : List Entry). record k { entries = es; clock = g.clock }) all

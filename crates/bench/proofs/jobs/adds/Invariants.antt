@@ -1,9 +1,0 @@
--- `adds` ends, and is safe.
-use Prim.Native.Nat.{◌≤◌, ◌-◌}
-use Rattle.bench.proofs.jobs.adds.Given as goal
-
-abbrev pub invariant-loop-i : goal.invariant-loop-i
-invariant-loop-i l = l.i ≤ l.times
-
-abbrev pub decreases-loop-i : goal.decreases-loop-i
-decreases-loop-i l = l.times - l.i

@@ -1,2 +1,0 @@
--- A law of parts.
-pub mod Parts

@@ -1,7 +1,0 @@
--- `resume` is its step.
-use mathlib.Core.Path.{ap}
-use Rattle.group.specs.Group.{group_of}
-use Rattle.group.proofs.group.AnimationGroup.resume.Goals as goal
-
-pub returns : goal.returns
-returns c = ap group_of c.resume-inner.ensures

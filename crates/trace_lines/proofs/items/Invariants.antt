@@ -1,9 +1,0 @@
--- `trace_lines::items` is safe and ends. The measure is the items that are left.
-use Prim.Native.Nat.{◌≤◌, ◌-◌}
-use Rattle.trace_lines.proofs.items.Given as goal
-
-abbrev pub invariant-loop-i : goal.invariant-loop-i
-invariant-loop-i l = (l.i ≤ l.n) × (l.n ≤ 256)
-
-abbrev pub decreases-loop-i : goal.decreases-loop-i
-decreases-loop-i l = l.n - l.i

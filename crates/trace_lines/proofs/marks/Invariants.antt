@@ -1,9 +1,0 @@
--- `trace_lines::marks` is safe and ends. The measure is the entries that are left.
-use Prim.Native.Nat.{◌≤◌, ◌-◌}
-use Rattle.trace_lines.proofs.marks.Given as goal
-
-abbrev pub invariant-loop-i : goal.invariant-loop-i
-invariant-loop-i l = (l.i ≤ l.n) × (l.n ≤ 64)
-
-abbrev pub decreases-loop-i : goal.decreases-loop-i
-decreases-loop-i l = l.n - l.i
