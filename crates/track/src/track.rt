@@ -12,11 +12,11 @@ use steps::{Entry, MAX_ENTRIES};
 use tween::Loop;
 
 // Seconds of play, as `seek_abs` takes them.
-#[derive(Clone, Copy)]
+#[derive(Clone, Copy, Debug, PartialEq)]
 pub struct Secs(pub f32);
 
 // A share of the run, from 0 to 1, as `seek` takes it.
-#[derive(Clone, Copy)]
+#[derive(Clone, Copy, Debug, PartialEq)]
 pub struct Share(pub f32);
 
 // What plays. The entries that count are the first count of the array, or all of it: paper 01 has fixed
@@ -232,6 +232,13 @@ impl Track {
         let base = self.duration();
         let total = steps::run_of(self.looping, base);
         progress_in(self.looping, base, total, self.clock.elapsed)
+    }
+
+    // The entries that count.
+    pub fn entries(&self) -> &[Entry]
+        ensures { result.now ≡ live self.now }
+    {
+        &self.entries[..self.entry_count()]
     }
 
     // How many entries count: `entry_count`.
