@@ -2,17 +2,16 @@
 use Prim.Native.Nat.{ℕ, ◌+◌, ◌<◌, ◌≤◌, min}
 use mathlib.Core.Path.{◌≡◌, refl, sym, ap, ◌∙◌}
 use mathlib.Core.Bool.{Bool, false}
-use mathlib.Core.List.{List, [], ◌∷◌, ◌++◌, map, foldl}
+use mathlib.Core.List.{List, [], ◌∷◌, ◌++◌, map}
 use native.Mathlib.Omega.{arith}
 use lib.ListN.{length, get_or, set, take, length-map, length-set, length-take}
 use lib.Seq.{take_all, take-length}
 use lib.Ieee.{Float, nan}
-use Rattle.float32.specs.Helpers.{zero_f, max_f}
 use Rattle.steps.specs.declared.Entry.{Entry}
 use Rattle.steps.specs.Slices.{over}
 use Rattle.steps.specs.Times.{max_entries, base_of}
 use Rattle.steps.proofs.Lists.{front, front-more, front-all, map_at, part_at}
-use Rattle.completions.specs.Columns.{most_entries, ends_in}
+use Rattle.completions.specs.Columns.{most_entries}
 use Rattle.clock.specs.declared.Clock.{Clock}
 use Rattle.track.specs.declared.track.Track.{Track}
 use Rattle.track.specs.declared.track.Playhead.{Playhead}
@@ -21,7 +20,7 @@ use Rattle.track.specs.Columns.{entry_of, first_of, track_of, with_clock_at, tri
 use Rattle.track.specs.Answers.{LaysOut}
 use Rattle.track.specs.Claims.{put_back}
 use Rattle.track.proofs.Marks.{no_entry}
-use Rattle.track.proofs.Columns.{roomy, own, first_at, based}
+use Rattle.track.proofs.Columns.{roomy, own, first_at}
 
 -- ---- one column, as the loop fills it
 

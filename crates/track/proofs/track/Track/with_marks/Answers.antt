@@ -5,11 +5,10 @@ use mathlib.Core.Bool.{false}
 use mathlib.Core.List.{List}
 use native.Mathlib.Omega.{arith}
 use borrow.Author.Rules.{rules}
-use lib.ListN.{length, get_or, set, length-set, length-take}
+use lib.ListN.{length, get_or, length-set, length-take}
 use Rattle.steps.specs.declared.Entry.{Entry}
 use Rattle.steps.specs.Times.{max_entries}
 use Rattle.steps.proofs.Lists.{unmapped, part_at, front-more, front_at, front-all}
-use Rattle.track.specs.declared.track.Track.{Track}
 use Rattle.track.specs.Tracks.{live, marked, marks as marks_on}
 use Rattle.track.proofs.Marks.{no_entry, length_marked, marks-at}
 use Rattle.track.proofs.track.Track.with_marks.Goals as goal
