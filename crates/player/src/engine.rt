@@ -3,14 +3,13 @@
 ghost use Rattle.std.specs.Prelude.{◌≡◌, [], ◌≤◌, length};
 ghost use Rattle.clock.specs.Clocks.{advanced_clock, stayed_clock};
 ghost use Rattle.track.specs.Tracks.{live, track_base};
-ghost use Rattle.track.specs.Columns.{track_of};
 ghost use Rattle.track.specs.Calls.{Play, Reset, Seek, SeekAbs, updated};
-ghost use Rattle.track.specs.Answers.{resting_in, reached_from, stayed_in, seen, lent_track, SentIn};
-ghost use Rattle.player.specs.Loops.{counted_at, Writes};
+ghost use Rattle.track.specs.Answers.{reached_from, stayed_in};
+ghost use Rattle.player.specs.Loops.{Writes, SentIn};
 ghost use Rattle.player.specs.Answered.{at_clock, playing_in, answer_of, ticked_to, synced_to, MovesInPlace, UpdatesInPlace, UpdatesTo, ShowsInPlace};
 
 use crate::entries::{apply, outnumber, tick};
-use clock::{Clock, Reach};
+use clock::Reach;
 use completions::{MOST_ENTRIES, Spans};
 use refusal::Refusal;
 use steps::Rule;
@@ -197,35 +196,30 @@ impl Player<'_, '_> {
             listed: 0,
         }
     }
-}
 
-// The rows of an update of the first n entries alone, with marks that are not kept.
-fn show(
-    head: Playhead,
-    n: usize,
-    dt: f32,
-    spans: Spans<'_>,
-    marks: &mut [bool],
-    rows: &mut Rows<'_>,
-)
-    requires { (n ≡ length (live (track_of (counted_at head n) spans.starts.now spans.durations.now marks.old))) × Writes n rows.old }
-    ensures { SentIn (updated (lent_track (counted_at head n) spans.entry (seen marks)) dt []).rows rows }
-{
-    let base = completions::base(n, spans);
-    let next = head.clock.next_elapsed(dt);
-    let to = clock::reach_of(head.looping, base, next);
-    let advances = head.clock.advances(base);
-    let once = tween::loop_mode::is_once(head.looping);
-    let ticks = advances & once;
-    if ticks {
-        let from = float32::min(head.clock.elapsed, base);
-        let replies = [1u8; MOST_ENTRIES];
-        let mut list = [0u8; MOST_ENTRIES];
-        tick(n, from, to.elapsed, spans, marks, &replies, &mut list, rows);
-        return;
+    // The rows of an update of all n entries, with marks that are not kept.
+    fn show(&mut self, n: usize, dt: f32, rows: &mut Rows<'_>)
+        requires { (n ≡ length (live (playing_in self.old))) × Writes n rows.old }
+        ensures { SentIn (updated (playing_in self.old) dt []).rows rows.old rows.new }
+    {
+        let base = completions::base(n, self.spans);
+        let next = self.head.clock.next_elapsed(dt);
+        let to = clock::reach_of(self.head.looping, base, next);
+        let advances = self.head.clock.advances(base);
+        let once = tween::loop_mode::is_once(self.head.looping);
+        let ticks = advances & once;
+        if ticks {
+            let from = float32::min(self.head.clock.elapsed, base);
+            let replies = [1u8; MOST_ENTRIES];
+            let mut list = [0u8; MOST_ENTRIES];
+            tick(
+                n, from, to.elapsed, self.spans, self.marks, &replies, &mut list, rows,
+            );
+            return;
+        }
+        let rule = clock::advance_rule(advances, self.head.looping, base, to.elapsed);
+        apply(n, rule, self.spans, self.marks, rows);
     }
-    let rule = clock::advance_rule(advances, head.looping, base, to.elapsed);
-    apply(n, rule, spans, marks, rows);
 }
 
 // The rows that `update` with room enough would write: it goes over a copy of the marks. It refuses by 3 only.
@@ -242,6 +236,12 @@ pub fn preview(
     rows.check(n)?;
     let mut copy = [false; MOST_ENTRIES];
     copy[..n].copy_from_slice(&marks[..n]);
-    show(head, n, dt, spans, &mut copy, rows);
+    let head = Playhead { count: n, ..head };
+    let mut player = Player {
+        head,
+        spans,
+        marks: &mut copy,
+    };
+    player.show(n, dt, rows);
     Ok(())
 }

@@ -6,10 +6,7 @@ ghost use Rattle.steps.specs.Rows.{ruled};
 ghost use Rattle.steps.specs.Slices.{over};
 ghost use Rattle.completions.specs.Completions.{keep};
 ghost use Rattle.completions.specs.Columns.{most_entries};
-ghost use Rattle.track.specs.Columns.{first_of};
-ghost use Rattle.track.specs.Updates.{ticks, newly_done};
-ghost use Rattle.track.specs.Answers.{seen};
-ghost use Rattle.player.specs.Loops.{lent_first, lent_ticks, lent_done, entry_at, Reads, Writes, SentTo};
+ghost use Rattle.player.specs.Loops.{first_in, ticks_in, done_in, entry_at, Reads, Writes, SentTo};
 
 use completions::Spans;
 use steps::{Entry, Rule, Stepped};
@@ -30,7 +27,7 @@ fn entry_at(i: usize, spans: Spans<'_>, marks: &[bool]) -> Entry
 // To each of n entries what the rule sends, and its mark.
 pub(crate) fn apply(n: usize, rule: Rule, spans: Spans<'_>, marks: &mut [bool], rows: &mut Rows<'_>)
     requires { Reads n spans marks.old × Writes n rows.old }
-    ensures { SentTo (map (ruled rule) (lent_first n spans.entry (seen marks))) marks rows }
+    ensures { SentTo (map (ruled rule) (first_in n spans.entry marks.old)) marks.old marks.new rows.old rows.new }
 {
     // Taken out of the struct, which would be read anew in each turn: some 19 instructions an entry.
     let kinds = &mut *rows.kinds;
@@ -62,7 +59,7 @@ fn count_done(
     replies: &[u8],
 ) -> usize
     requires { Reads n spans marks.now × (n ≤ length replies.now) }
-    ensures { result ≡ length (lent_done n prev next spans.entry marks replies) }
+    ensures { result ≡ length (done_in n prev next spans.entry marks.now replies.now) }
 {
     let mut k = 0;
     for i in 0..n {
@@ -85,7 +82,7 @@ pub(crate) fn outnumber(
     room: usize,
 ) -> bool
     requires { Reads n spans marks.now × (n ≤ length replies.now) }
-    ensures { result ≡ ltb room (length (lent_done n prev next spans.entry marks replies)) }
+    ensures { result ≡ ltb room (length (done_in n prev next spans.entry marks.now replies.now)) }
 {
     room < n && room < count_done(n, prev, next, spans, marks, replies)
 }
@@ -118,9 +115,9 @@ pub(crate) fn tick(
     rows: &mut Rows<'_>,
 ) -> usize
     requires in_bounds { Reads n spans marks.old × Writes n rows.old × (n ≤ most_entries) × (n ≤ length replies.now) }
-    requires room { length (newly_done 0 (first_of n spans.starts.now spans.durations.now marks.old) (ticks prev next (first_of n spans.starts.now spans.durations.now marks.old) replies.now)) ≤ length list.old }
-    ensures value { (result ≡ length (lent_done n prev next spans.entry (seen marks) replies)) × (list.new ≡ over (lent_done n prev next spans.entry (seen marks) replies) list.old) }
-    ensures sent_to { SentTo (lent_ticks n prev next spans.entry (seen marks) replies) marks rows }
+    requires room { length (done_in n prev next spans marks.old replies.now) ≤ length list.old }
+    ensures value { (result ≡ length (done_in n prev next spans.entry marks.old replies.now)) × (list.new ≡ over (done_in n prev next spans.entry marks.old replies.now) list.old) }
+    ensures sent_to { SentTo (ticks_in n prev next spans.entry marks.old replies.now) marks.old marks.new rows.old rows.new }
 {
     // Taken out of the struct, which would be read anew in each turn: some 19 instructions an entry.
     let kinds = &mut *rows.kinds;
