@@ -1,8 +1,9 @@
 -- What the loops over the first n entries of lent columns leave: the parts that a player's calls are made of. Definitions only.
-use Rattle.std.specs.Prelude.{ℕ, ◌≡◌, ◌≤◌, Bool, false, List, length, get_or, Float}
+use Rattle.std.specs.Prelude.{ℕ, ◌≡◌, ◌≤◌, Bool, false, List, length, get_or}
 use Rattle.std.specs.Float.Ieee.{nan}
 use Rattle.steps.specs.declared.Entry.{Entry}
 use Rattle.steps.specs.declared.Row.{Row}
+use Rattle.steps.specs.declared.Step.{Step}
 use Rattle.steps.specs.declared.Stepped.{Stepped}
 use Rattle.steps.specs.Slices.{over}
 use Rattle.completions.specs.declared.Spans.{Spans}
@@ -28,12 +29,12 @@ abbrev pub first_in : ℕ → Spans → List Bool → List Entry
 first_in n spans marks = first_of n spans.starts.now spans.durations.now marks
 
 -- their steps in a tick
-abbrev pub ticks_in : ℕ → Float → Float → Spans → List Bool → List ℕ → List Stepped
-ticks_in n prev next spans marks replies = ticks prev next (first_in n spans marks) replies
+abbrev pub ticks_in : ℕ → Step → Spans → List Bool → List ℕ → List Stepped
+ticks_in n step spans marks replies = ticks step.prev step.next (first_in n spans marks) replies
 
 -- the numbers of those that it completes
-abbrev pub done_in : ℕ → Float → Float → Spans → List Bool → List ℕ → List ℕ
-done_in n prev next spans marks replies = newly_done 0 (first_in n spans marks) (ticks_in n prev next spans marks replies)
+abbrev pub done_in : ℕ → Step → Spans → List Bool → List ℕ → List ℕ
+done_in n step spans marks replies = newly_done 0 (first_in n spans marks) (ticks_in n step spans marks replies)
 
 -- the rows rs have been sent: s is left of the row slices r
 abbrev pub SentIn : List Row → Rows → Rows → Type 0

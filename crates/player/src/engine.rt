@@ -1,6 +1,9 @@
 // The clocked calls of timeline.rs on what plays in three lent columns. Each leaves its clock in the playhead; a refused one has moved
 // nothing.
 ghost use Rattle.std.specs.Prelude.{◌≡◌, [], ◌≤◌, length};
+ghost use mathlib.Core.List.{foldl};
+ghost use Rattle.float32.specs.Helpers.{zero_f, max_f};
+ghost use Rattle.completions.specs.Columns.{first_ends};
 ghost use Rattle.clock.specs.Clocks.{advanced_clock, stayed_clock};
 ghost use Rattle.track.specs.Tracks.{live, track_base};
 ghost use Rattle.track.specs.Calls.{Play, Reset, Seek, SeekAbs, updated};
@@ -12,7 +15,7 @@ use crate::entries::{apply, outnumber, tick};
 use clock::Reach;
 use completions::{MOST_ENTRIES, Spans};
 use refusal::Refusal;
-use steps::Rule;
+use steps::{Rule, Run, Step};
 use track::checks::check_replies;
 use track::rows::Rows;
 use track::track::{Playhead, Secs, Share};
@@ -34,16 +37,31 @@ pub struct Updated {
 }
 
 impl Player<'_, '_> {
+    // How the first n entries play: the loop mode and the base.
+    fn run(&self, n: usize) -> Run
+        ensures { (result.mode ≡ self.now.head.looping) × (result.base ≡ foldl max_f zero_f (first_ends n self.now.spans)) }
+    {
+        Run {
+            mode: self.head.looping,
+            base: completions::base(self.spans.first(n)),
+        }
+    }
+
     // `play`
     pub fn play(&mut self, rows: &mut Rows<'_>) -> Result<(), Refusal>
         ensures { MovesInPlace self.old Play result self.new rows.old rows.new }
     {
         let n = self.head.entries(self.spans, self.marks.len());
         rows.check(n)?;
-        let base = completions::base(n, self.spans);
-        let rule = clock::play_rule(self.head.looping, self.head.clock, base);
-        apply(n, rule, self.spans, self.marks, rows);
-        self.head = self.head.with_clock(self.head.clock.played(base));
+        let run = self.run(n);
+        apply(
+            n,
+            self.head.clock.play_rule(run),
+            self.spans,
+            self.marks,
+            rows,
+        );
+        self.head = self.head.with_clock(self.head.clock.played(run.base));
         Ok(())
     }
 
@@ -64,26 +82,37 @@ impl Player<'_, '_> {
     {
         let n = self.head.entries(self.spans, self.marks.len());
         rows.check(n)?;
-        let base = completions::base(n, self.spans);
-        let total = steps::run_of(self.head.looping, base);
-        let elapsed = clock::seek_to(total, clock::share_in(base, total, to.0));
-        let rule = Rule::Sync(steps::local_time(self.head.looping, base, elapsed));
-        apply(n, rule, self.spans, self.marks, rows);
+        let run = self.run(n);
+        let total = run.total();
+        let elapsed = clock::seek_to(total, clock::share_in(run, to.0));
+        apply(
+            n,
+            Rule::Sync(run.local_time(elapsed)),
+            self.spans,
+            self.marks,
+            rows,
+        );
         self.head = self.head.with_clock(self.head.clock.sought(total, elapsed));
         Ok(())
     }
 
-    // `seek_abs`. A body of its own: a common middle of the seeks is not built in, and was 8 to 11 ns slower (docs/DECISIONS.md).
+    // `seek_abs`. A body of its own: a common middle of the seeks is called from two places, so it is not built in, and costs 8 to 11 ns
+    // (docs/DECISIONS.md).
     pub fn seek_abs(&mut self, to: Secs, rows: &mut Rows<'_>) -> Result<(), Refusal>
         ensures { MovesInPlace self.old (SeekAbs to.0) result self.new rows.old rows.new }
     {
         let n = self.head.entries(self.spans, self.marks.len());
         rows.check(n)?;
-        let base = completions::base(n, self.spans);
-        let total = steps::run_of(self.head.looping, base);
+        let run = self.run(n);
+        let total = run.total();
         let elapsed = clock::seek_to(total, to.0);
-        let rule = Rule::Sync(steps::local_time(self.head.looping, base, elapsed));
-        apply(n, rule, self.spans, self.marks, rows);
+        apply(
+            n,
+            Rule::Sync(run.local_time(elapsed)),
+            self.spans,
+            self.marks,
+            rows,
+        );
         self.head = self.head.with_clock(self.head.clock.sought(total, elapsed));
         Ok(())
     }
@@ -101,17 +130,16 @@ impl Player<'_, '_> {
         let n = self.head.entries(self.spans, self.marks.len());
         rows.check(n)?;
         check_replies(replies, n)?;
-        let base = completions::base(n, self.spans);
-        let before = self.head.clock;
-        if !before.advances(base) {
+        let run = self.run(n);
+        if !self.head.clock.advances(run.base) {
             apply(n, Rule::Keep, self.spans, self.marks, rows);
             return Ok(self.stay());
         }
-        let next = before.next_elapsed(dt);
-        if tween::loop_mode::is_once(self.head.looping) {
-            return self.tick_to(n, base, next, replies, list, rows);
+        let next = self.head.clock.next_elapsed(dt);
+        if tween::loop_mode::is_once(run.mode) {
+            return self.tick_to(n, run.base, next, replies, list, rows);
         }
-        self.sync_to(n, base, next, list, rows)
+        self.sync_to(n, run, next, list, rows)
     }
 
     // An update in Once: a tick within the base, if the list has room for the entries that it completes.
@@ -127,13 +155,16 @@ impl Player<'_, '_> {
         requires { (n ≡ length (live (playing_in self.old))) × Writes n rows.old × (n ≤ length replies.now) }
         ensures { UpdatesTo self.old (ticked_to (playing_in self.old) base next replies.now) result self.new list.old list.new rows.old rows.new }
     {
-        let from = float32::min(self.head.clock.elapsed, base);
         let to = clock::reach_within(base, next);
+        let step = Step {
+            prev: float32::min(self.head.clock.elapsed, base),
+            next: to.elapsed,
+        };
         let marks = &mut *self.marks;
-        if outnumber(n, from, to.elapsed, self.spans, marks, replies, list.len()) {
+        if outnumber(n, step, self.spans, marks, replies, list.len()) {
             return Err(Refusal::ListTooShort);
         }
-        let listed = tick(n, from, to.elapsed, self.spans, marks, replies, list, rows);
+        let listed = tick(n, step, self.spans, marks, replies, list, rows);
         Ok(self.reach(to, listed))
     }
 
@@ -141,27 +172,28 @@ impl Player<'_, '_> {
     fn sync_to(
         &mut self,
         n: usize,
-        base: f32,
+        run: Run,
         next: f32,
         list: &mut [u8],
         rows: &mut Rows<'_>,
     ) -> Result<Updated, Refusal>
-        requires { (n ≡ length (live (playing_in self.old))) × Writes n rows.old × (base ≡ track_base (playing_in self.old)) }
-        ensures { UpdatesTo self.old (synced_to (playing_in self.old) base next) result self.new list.old list.new rows.old rows.new }
+        requires { (n ≡ length (live (playing_in self.old))) × Writes n rows.old × (run.mode ≡ self.old.head.looping) × (run.base ≡ track_base (playing_in self.old)) }
+        ensures { UpdatesTo self.old (synced_to (playing_in self.old) run.base next) result self.new list.old list.new rows.old rows.new }
     {
-        let to = clock::reach_of(self.head.looping, base, next);
-        let found = completions::between(
-            n,
-            self.spans,
-            base,
-            self.head.looping,
-            self.head.clock.elapsed,
+        let to = clock::reach_of(run, next);
+        let step = Step {
+            prev: self.head.clock.elapsed,
             next,
-            list,
-        );
+        };
+        let found = completions::between(self.spans.first(n), run, step, list);
         let listed = found.ok_or(Refusal::ListTooShort)?;
-        let rule = Rule::Sync(steps::local_time(self.head.looping, base, to.elapsed));
-        apply(n, rule, self.spans, self.marks, rows);
+        apply(
+            n,
+            Rule::Sync(run.local_time(to.elapsed)),
+            self.spans,
+            self.marks,
+            rows,
+        );
         Ok(self.reach(to, listed))
     }
 
@@ -170,7 +202,7 @@ impl Player<'_, '_> {
         ensures { (answer_of result ≡ reached_from self.old.head.clock to.ended listed) × (self.new ≡ at_clock self.old (advanced_clock self.old.head.clock to.elapsed to.ended)) }
     {
         let before = self.head.clock;
-        self.head = self.head.with_clock(before.advanced(to.elapsed, to.ended));
+        self.head = self.head.with_clock(before.advanced(to));
         Updated {
             running: !to.ended,
             completed: before.fires(to.ended),
@@ -202,22 +234,23 @@ impl Player<'_, '_> {
         requires { (n ≡ length (live (playing_in self.old))) × Writes n rows.old }
         ensures { SentIn (updated (playing_in self.old) dt []).rows rows.old rows.new }
     {
-        let base = completions::base(n, self.spans);
+        let run = self.run(n);
         let next = self.head.clock.next_elapsed(dt);
-        let to = clock::reach_of(self.head.looping, base, next);
-        let advances = self.head.clock.advances(base);
-        let once = tween::loop_mode::is_once(self.head.looping);
+        let to = clock::reach_of(run, next);
+        let advances = self.head.clock.advances(run.base);
+        let once = tween::loop_mode::is_once(run.mode);
         let ticks = advances & once;
         if ticks {
-            let from = float32::min(self.head.clock.elapsed, base);
+            let step = Step {
+                prev: float32::min(self.head.clock.elapsed, run.base),
+                next: to.elapsed,
+            };
             let replies = [1u8; MOST_ENTRIES];
             let mut list = [0u8; MOST_ENTRIES];
-            tick(
-                n, from, to.elapsed, self.spans, self.marks, &replies, &mut list, rows,
-            );
+            tick(n, step, self.spans, self.marks, &replies, &mut list, rows);
             return;
         }
-        let rule = clock::advance_rule(advances, self.head.looping, base, to.elapsed);
+        let rule = self.head.clock.advance_rule(run, to.elapsed);
         apply(n, rule, self.spans, self.marks, rows);
     }
 }

@@ -9,7 +9,7 @@ ghost use Rattle.completions.specs.Columns.{most_entries};
 ghost use Rattle.player.specs.Loops.{first_in, ticks_in, done_in, entry_at, Reads, Writes, SentTo};
 
 use completions::Spans;
-use steps::{Entry, Rule, Stepped};
+use steps::{Entry, Rule, Step, Stepped};
 use track::rows::Rows;
 
 // Entry i of the columns.
@@ -34,7 +34,7 @@ pub(crate) fn apply(n: usize, rule: Rule, spans: Spans<'_>, marks: &mut [bool], 
     let amounts = &mut *rows.amounts;
     let places = &mut *rows.places;
     for i in 0..n {
-        let s = steps::step_entry(rule, entry_at(i, spans, marks));
+        let s = rule.sent_to(entry_at(i, spans, marks));
         kinds[i] = s.row.kind;
         amounts[i] = s.row.amount;
         places[i] = s.row.place;
@@ -50,21 +50,14 @@ fn newly_done(e: Entry, s: Stepped) -> bool
 }
 
 // How many of n entries a tick would list.
-fn count_done(
-    n: usize,
-    prev: f32,
-    next: f32,
-    spans: Spans<'_>,
-    marks: &[bool],
-    replies: &[u8],
-) -> usize
+fn count_done(n: usize, step: Step, spans: Spans<'_>, marks: &[bool], replies: &[u8]) -> usize
     requires { Reads n spans marks.now × (n ≤ length replies.now) }
-    ensures { result ≡ length (done_in n prev next spans.entry marks.now replies.now) }
+    ensures { result ≡ length (done_in n step spans.entry marks.now replies.now) }
 {
     let mut k = 0;
     for i in 0..n {
         let e = entry_at(i, spans, marks);
-        if newly_done(e, steps::tick_entry(prev, next, e, replies[i])) {
+        if newly_done(e, e.ticked(step, replies[i])) {
             k += 1;
         }
     }
@@ -74,17 +67,16 @@ fn count_done(
 // Whether they outnumber the places of a list. They are at most n.
 pub(crate) fn outnumber(
     n: usize,
-    prev: f32,
-    next: f32,
+    step: Step,
     spans: Spans<'_>,
     marks: &[bool],
     replies: &[u8],
     room: usize,
 ) -> bool
     requires { Reads n spans marks.now × (n ≤ length replies.now) }
-    ensures { result ≡ ltb room (length (done_in n prev next spans.entry marks.now replies.now)) }
+    ensures { result ≡ ltb room (length (done_in n step spans.entry marks.now replies.now)) }
 {
-    room < n && room < count_done(n, prev, next, spans, marks, replies)
+    room < n && room < count_done(n, step, spans, marks, replies)
 }
 
 // Marks the entry i, and lists it at `at`, if it is newly done; says where the next one goes. Most marks stay.
@@ -106,8 +98,7 @@ fn note(marks: &mut [bool], list: &mut [u8], at: usize, i: usize, was: bool, don
 // `tick_forward`: to each of n entries its row and its mark; the numbers of those newly done go into the list.
 pub(crate) fn tick(
     n: usize,
-    prev: f32,
-    next: f32,
+    step: Step,
     spans: Spans<'_>,
     marks: &mut [bool],
     replies: &[u8],
@@ -115,9 +106,9 @@ pub(crate) fn tick(
     rows: &mut Rows<'_>,
 ) -> usize
     requires in_bounds { Reads n spans marks.old × Writes n rows.old × (n ≤ most_entries) × (n ≤ length replies.now) }
-    requires room { length (done_in n prev next spans marks.old replies.now) ≤ length list.old }
-    ensures value { (result ≡ length (done_in n prev next spans.entry marks.old replies.now)) × (list.new ≡ over (done_in n prev next spans.entry marks.old replies.now) list.old) }
-    ensures sent_to { SentTo (ticks_in n prev next spans.entry marks.old replies.now) marks.old marks.new rows.old rows.new }
+    requires room { length (done_in n step spans marks.old replies.now) ≤ length list.old }
+    ensures value { (result ≡ length (done_in n step spans.entry marks.old replies.now)) × (list.new ≡ over (done_in n step spans.entry marks.old replies.now) list.old) }
+    ensures sent_to { SentTo (ticks_in n step spans.entry marks.old replies.now) marks.old marks.new rows.old rows.new }
 {
     // Taken out of the struct, which would be read anew in each turn: some 19 instructions an entry.
     let kinds = &mut *rows.kinds;
@@ -126,7 +117,7 @@ pub(crate) fn tick(
     let mut listed = 0;
     for i in 0..n {
         let e = entry_at(i, spans, marks);
-        let s = steps::tick_entry(prev, next, e, replies[i]);
+        let s = e.ticked(step, replies[i]);
         kinds[i] = s.row.kind;
         amounts[i] = s.row.amount;
         places[i] = s.row.place;
