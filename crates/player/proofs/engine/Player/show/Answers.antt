@@ -22,7 +22,7 @@ use Rattle.track.proofs.Ticks.{newly_most}
 use Rattle.track.proofs.Replies.{ticks-rows}
 use Rattle.track.proofs.Outcomes.{plays, ticks-on, rows_ruled}
 use Rattle.player.specs.Answered.{playing_in}
-use Rattle.player.specs.Loops.{first_in, ticks_in}
+use Rattle.player.specs.Loops.{first_in}
 use Rattle.player.proofs.Shown.{shown}
 use Rattle.player.proofs.engine.Player.show.Goals as goal
 

@@ -4,7 +4,6 @@ use mathlib.Core.Bool.{true, false}
 use Rattle.std.proofs.Common.{rules}
 use Rattle.tween.specs.LoopMode.{is_once}
 use Rattle.clock.specs.Clocks.{advances}
-use Rattle.track.proofs.Columns.{roomy}
 use Rattle.player.proofs.Moving.{base-own}
 use Rattle.player.proofs.Answers.{left-at, sent-at}
 use Rattle.player.proofs.Updating.{update-short, update-bad, update-room, update-stays, update-ticks, update-syncs}
