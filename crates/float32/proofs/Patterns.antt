@@ -57,12 +57,6 @@ split p k = go (ltb p k) refl
     go true e = inl (ltb-true p k e)
     go false e = inr (ltb-false p k e)
 
-pub unit-below : (p : ℕ) → p ≤ 253 → unit_pattern p ≤ 1937768448
-unit-below p h = elim (split p 23) [
-  | inl l ↦ let small : 2 ^ p < 2 ^ 23 = pow-lt {i = p} {j = 23} l in rw (lt-ltb p 23 l) (omega arith)
-  | inr g ↦ rw (le-ltb p 23 g) (omega arith)
-]
-
 unit-sizes : (n p : ℕ) → p ≤ 253 → n % top binary32 ≡ unit_pattern p → n % hid binary32 ≡ unit_pattern p % hid binary32
     → (digits_in n * 2 ^ scale_of n ≡ 2 ^ p) × (field_of n ≡ 255 → ⊥)
 unit-sizes n p h a b = elim (split p 23) [

@@ -125,6 +125,7 @@ pub fn infinity() -> f32
 }
 
 // `f32::from_bits`; every NaN pattern gives the NaN, where the language leaves it open.
+#[tactic(auto, using(std::proofs::lemmas::Float::not_nan_f32_bits))]
 pub fn from_bits(bits: u32) -> f32
     ensures { result ≡ from_bits bits }
 {
@@ -149,6 +150,7 @@ pub fn to_bits(x: f32) -> u32
 // ---- the remainder, in whole numbers
 
 // 2^p of the smallest values, with a sign.
+#[tactic(auto, using(std::proofs::lemmas::Float::not_nan_f32_bits))]
 fn unit_of(negative: bool, p: u32) -> f32
     requires { p ≤ 253 }
     ensures { HasValue result negative (2 ^ p) (2 ^ 149) }

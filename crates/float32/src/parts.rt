@@ -17,7 +17,8 @@ impl Pattern {
     // That of 2^p of the smallest values.
     pub(crate) fn of_unit(p: u32) -> Pattern
         requires { p ≤ 253 }
-        ensures { result.0 ≡ unit_pattern p }
+        ensures value { result.0 ≡ unit_pattern p }
+        ensures below { result.0 ≤ 0x7380_0000 }
     {
         if p < 23 {
             return Pattern(1 << p);

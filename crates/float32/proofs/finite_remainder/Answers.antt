@@ -8,7 +8,7 @@ use lib.Pow.{pow_pos}
 use lib.Ieee.{binary32, low, top, div, of_bits, to_bits}
 use lib.Ieee.Exact.{HasValue}
 use Rattle.float32.proofs.Nan.{finite_no_nan}
-use Rattle.float32.proofs.Cut.{no}
+use Rattle.float32.proofs.Order.{no}
 use Rattle.float32.proofs.Patterns.{own-value, scale-below}
 use Rattle.float32.proofs.Rest.{rem-none, remainder-value}
 use Rattle.float32.proofs.finite_remainder.Goals as goal

@@ -3,8 +3,8 @@ use mathlib.Core.Path.{◌∙◌}
 use native.Mathlib.Omega.{arith}
 use borrow.Author.Rules.{rules}
 use lib.Ieee.{of_bits, neg}
-use Rattle.float32.proofs.Order.{lt-no_nan}
-use Rattle.float32.proofs.Cut.{cut_top, cut_zero, cut-pattern, scale-reach, yes, no}
+use Rattle.float32.proofs.Order.{lt-no_nan, yes, no}
+use Rattle.float32.proofs.Cut.{cut_top, cut_zero, cut-pattern, scale-reach}
 use Rattle.float32.proofs.to_u32.Goals as goal
 
 pub float_to_bits-x : goal.float_to_bits-x
