@@ -26,7 +26,7 @@ use Rattle.track.proofs.Outcomes.{plays, ticks-on, rows_ruled}
 use Rattle.player.specs.Loops.{counted_at}
 use Rattle.player.proofs.Answers.{clock-own, mode-own}
 use Rattle.player.proofs.Shown.{shown}
-use Rattle.player.proofs.engine.show.Goals as goal
+use Rattle.player.proofs.engine.Player.show.Goals as goal
 
 pub tick-requires : goal.tick-requires
 tick-requires c =

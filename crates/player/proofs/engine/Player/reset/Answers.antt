@@ -7,7 +7,7 @@ use Rattle.track.proofs.Columns.{counted}
 use Rattle.track.proofs.Outcomes.{reset_sent}
 use Rattle.player.proofs.Checks.{same_slices}
 use Rattle.player.proofs.Moving.{apply-room, refused-moves, accepted-moves}
-use Rattle.player.proofs.engine.reset.Goals as goal
+use Rattle.player.proofs.engine.Player.reset.Goals as goal
 
 pub returns-in_err-check : goal.returns-in_err-check
 returns-in_err-check c =

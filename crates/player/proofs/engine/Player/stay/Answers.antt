@@ -2,7 +2,7 @@
 use mathlib.Core.Path.{sym, ◌∙◌}
 use Rattle.clock.specs.Clocks.{stayed_clock}
 use Rattle.steps.proofs.Tests.{yes, no}
-use Rattle.player.proofs.engine.stayed.Goals as goal
+use Rattle.player.proofs.engine.Player.stay.Goals as goal
 
 pub returns-then-is_playing : goal.returns-then-is_playing
 unfolding stayed_clock

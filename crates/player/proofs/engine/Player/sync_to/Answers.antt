@@ -5,7 +5,7 @@ use Rattle.track.proofs.Columns.{roomy}
 use Rattle.player.proofs.Checks.{same_slices}
 use Rattle.player.proofs.Answers.{sync-over, sync-told}
 use Rattle.player.specs.Answered.{answer_in, clock_of}
-use Rattle.player.proofs.engine.looped.Goals as goal
+use Rattle.player.proofs.engine.Player.sync_to.Goals as goal
 
 pub returns-in_err-listed : goal.returns-in_err-listed
 returns-in_err-listed c =

@@ -7,7 +7,7 @@ use Rattle.track.proofs.Columns.{counted, based}
 use Rattle.track.proofs.Outcomes.{share-sent}
 use Rattle.player.proofs.Checks.{same_slices}
 use Rattle.player.proofs.Moving.{apply-room, refused-moves, accepted-moves}
-use Rattle.player.proofs.engine.seek.Goals as goal
+use Rattle.player.proofs.engine.Player.seek.Goals as goal
 
 pub returns-in_err-check : goal.returns-in_err-check
 returns-in_err-check c =

@@ -3,7 +3,7 @@ use borrow.Author.Tests.{ltb-false}
 use Rattle.track.proofs.Columns.{roomy}
 use Rattle.player.proofs.Checks.{same_slices}
 use Rattle.player.proofs.Answers.{tick-over, tick-told}
-use Rattle.player.proofs.engine.ticked.Goals as goal
+use Rattle.player.proofs.engine.Player.tick_to.Goals as goal
 
 pub outnumber-requires : goal.outnumber-requires
 outnumber-requires c =

@@ -15,7 +15,7 @@ use Rattle.player.specs.Answered.{answer_in, clock_of}
 use Rattle.player.proofs.Checks.{refused, passed, same_slices}
 use Rattle.player.proofs.Loops.{applied}
 use Rattle.player.proofs.Answers.{once_reach, told, clock-own, mode-own, same-track}
-use Rattle.player.proofs.engine.update.Goals as goal
+use Rattle.player.proofs.engine.Player.update.Goals as goal
 
 pub returns-in_err-check : goal.returns-in_err-check
 returns-in_err-check c =
