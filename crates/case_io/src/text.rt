@@ -1,5 +1,6 @@
 // Standard output, by way of a buffer: the text of a case, or its digest, FNV-1a in eight hex digits.
 ghost use Rattle.std.specs.Prelude.{◌≡◌, ◌+◌, ◌≤◌};
+ghost use Rattle.case_io.specs.Bits.{zeroless};
 
 use std::io::{Print, Stdout};
 
@@ -131,13 +132,20 @@ impl Sink {
 
     // A float's bits, with those of +0.0 for either zero.
     pub fn float(&mut self, before: u8, x: f32) {
-        self.bits(before, if x == 0.0 { 0 } else { float32::to_bits(x) });
+        self.bits(before, zeroless_bits(x));
     }
 
     pub fn letter(&mut self, before: u8, b: u8) {
         self.byte(before);
         self.byte(b);
     }
+}
+
+// A float's bits, with 0 for either zero, where the Rust leaves the sign open.
+pub fn zeroless_bits(x: f32) -> u32
+    ensures { result ≡ zeroless x }
+{
+    if x == 0.0 { 0 } else { float32::to_bits(x) }
 }
 
 // The digest of what was taken before and of these bytes.
