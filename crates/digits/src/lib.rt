@@ -1,4 +1,5 @@
-// Numbers as text, in ASCII, put into a lent slice. A text that has no room there is not written, and the count is 0.
+// Numbers as text, in ASCII, put into a lent slice. Each answers how many bytes were written: none where the text has no
+// room there, and then nothing is written.
 // Put by hand: `write!` writes at the end of a text, and what had no room is lost or cut.
 #![tactic(auto)]
 
@@ -6,23 +7,23 @@ ghost use Rattle.std.specs.Prelude.{◌≡◌, ◌+◌, ◌<◌, ◌≤◌, leb,
 ghost use Rattle.digits.specs.Digits.{code_of, digits, hex_text, decimal_places, decimal, put_at, Put};
 ghost use Rattle.digits.specs.Claim.{Claim};
 
-// Writes n at `at` in decimal, and answers how many bytes were written.
+// Writes n at `at` in decimal.
 #[tactic(auto, unfolding(crate::specs::Digits::decimal))]
-pub fn put_decimal(n: usize, out: &mut [u8], at: usize) -> usize
+pub fn put_decimal(n: usize, out: &mut [u8], at: usize) -> Option<usize>
     ensures { Put (decimal n) at out.old out.new result }
 {
     put_digits(n, 10, decimal_places(n), out, at)
 }
 
-// Writes n at `at` in eight lower-case hex digits, and answers how many bytes were written.
-pub fn put_hex8(n: u32, out: &mut [u8], at: usize) -> usize
+// Writes n at `at` in eight lower-case hex digits.
+pub fn put_hex8(n: u32, out: &mut [u8], at: usize) -> Option<usize>
     ensures { Put (hex_text 8 n) at out.old out.new result }
 {
     put_digits(n as usize, 16, 8, out, at)
 }
 
-// Writes n at `at` in two lower-case hex digits, and answers how many bytes were written.
-pub fn put_hex2(n: u8, out: &mut [u8], at: usize) -> usize
+// Writes n at `at` in two lower-case hex digits.
+pub fn put_hex2(n: u8, out: &mut [u8], at: usize) -> Option<usize>
     ensures { Put (hex_text 2 n) at out.old out.new result }
 {
     put_digits(usize::from(n), 16, 2, out, at)
@@ -44,15 +45,15 @@ fn decimal_places(n: usize) -> usize
 
 // Writes the last width digits of n at `at`, where they have room.
 #[tactic(auto, using(crate::proofs::Length::length_digits), unfolding(crate::specs::Digits::written, crate::specs::Digits::written_count))]
-fn put_digits(n: usize, base: usize, width: usize, out: &mut [u8], at: usize) -> usize
+fn put_digits(n: usize, base: usize, width: usize, out: &mut [u8], at: usize) -> Option<usize>
     requires { (0 < base) × (base ≤ 16) }
     ensures { Put (digits base width n) at out.old out.new result }
 {
     if !fits(width, at, out.len()) {
-        return 0;
+        return None;
     }
     write_digits(n, base, width, out, at);
-    width
+    Some(width)
 }
 
 // From the last digit to the first.

@@ -37,7 +37,7 @@ fn put_escaped(byte: u8, out: &mut [u8], at: usize) -> usize
     }
     out[at] = b'\\';
     out[at + 1] = b'x';
-    2 + digits::put_hex2(byte, out, at + 2)
+    2 + digits::put_hex2(byte, out, at + 2).unwrap_or(0)
 }
 
 // Whether the byte stands for itself.
