@@ -13,7 +13,7 @@ ghost use Rattle.timeline.specs.Calls.{Add, AddBoxed, AddAtLabel, On, added_at, 
 ghost use Rattle.timeline.specs.Answers.{Adds, Moves, Updates, Shows};
 ghost use Rattle.timeline.specs.Introspections.{introspected};
 
-use crate::introspection::{AnimationIntrospection, AnimationKind, playback_state};
+use crate::introspection::{AnimationIntrospection, AnimationKind};
 use clock::{Clock, TimelineState};
 use completions::Spans;
 use label::{Label, MAX_LABEL};
@@ -24,8 +24,9 @@ use track::rows::Rows;
 use track::track::{Columns, Secs, Share, Track};
 use tween::Loop;
 
-// Where an entry starts. The label case carries the number of an entry, and means that entry's label.
-#[derive(Clone, Copy)]
+// Where an entry starts. The label case carries the number of an entry, and means that entry's label. A type of its own: what a sheet
+// stores keeps the bits of the seconds, and a script has a label's text.
+#[derive(Clone, Copy, Debug, PartialEq)]
 pub enum At {
     // At this second.
     Absolute(f32),
@@ -263,10 +264,7 @@ impl Timeline {
     fn start_at(self, i: usize) -> f32
         ensures { result ≡ (get_or (live self.track) i blank).start }
     {
-        if i >= self.entry_count() {
-            return 0.0;
-        }
-        self.track.entries[i].start
+        self.track.entries().get(i).map_or(0.0, |e| e.start)
     }
 
     // One entry more, if there is room for it and for its label.
@@ -377,7 +375,7 @@ impl Timeline {
             self.progress(),
             self.elapsed(),
             self.playback_duration(),
-            playback_state(self.state()),
+            self.state().into(),
         )
     }
 }

@@ -145,4 +145,4 @@ LaidOut k h starts durations marks =
 abbrev pub ColumnsOf : Track → Columns → Type 0
 ColumnsOf k c =
     LaysOut k (take max_entries (live k)) c.head
-    (replicate max_entries zero_f) c.starts (replicate max_entries zero_f) c.durations (replicate max_entries false) c.marks
+    (replicate max_entries zero_f) c.held.starts (replicate max_entries zero_f) c.held.durations (replicate max_entries false) c.marks
