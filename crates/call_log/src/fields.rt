@@ -23,7 +23,7 @@ pub(crate) fn put_decimal(line: &mut [u8], at: usize, n: usize) -> usize
     requires { at + length (decimal n) ≤ length line.old }
     ensures { Wrote (decimal n) at line.old line.new result }
 {
-    at + digits::put_decimal(n, line, at)
+    at + digits::put_decimal(n, line, at).unwrap_or(0)
 }
 
 // A space and a number.
@@ -60,7 +60,7 @@ pub(crate) fn put_bits(line: &mut [u8], at: usize, x: f32) -> usize
     ensures { Wrote (32 ∷ bits_field (to_bits x)) at line.old line.new result × (result ≡ at + 9) }
 {
     let field = put_byte(line, at, b' ');
-    field + digits::put_hex8(float32::to_bits(x), line, field)
+    field + digits::put_hex8(float32::to_bits(x), line, field).unwrap_or(0)
 }
 
 // The word `sheet`, at the beginning.

@@ -1,5 +1,5 @@
 -- Numbers as texts of ASCII codes, read back, and put into a lent slice. Definitions only.
-use Rattle.std.specs.Prelude.{ℕ, zero, suc, ◌+◌, ◌-◌, ◌*◌, ◌/◌, ◌%◌, ◌≡◌, Bool, true, false, cond, leb, ltb, length, take, drop}
+use Rattle.std.specs.Prelude.{ℕ, zero, suc, ◌+◌, ◌-◌, ◌*◌, ◌/◌, ◌%◌, ◌≡◌, Bool, true, false, cond, Option, Some, None, leb, ltb, length, take, drop}
 use mathlib.Core.List.{List, [], ◌∷◌, ◌++◌, foldl}
 
 -- ---- texts
@@ -64,11 +64,11 @@ fits w at old = leb (at + w) (length old)
 unfoldable pub written : List ℕ → ℕ → List ℕ → List ℕ
 written text at old = cond (fits (length text) at old) (put_at text at old) old
 
--- how many bytes were written: the whole text, or none
-unfoldable pub written_count : List ℕ → ℕ → List ℕ → ℕ
-written_count text at old = cond (fits (length text) at old) (length text) 0
+-- how many bytes were written: the whole text, where it has room
+unfoldable pub written_count : List ℕ → ℕ → List ℕ → Option ℕ
+written_count text at old = cond (fits (length text) at old) (Some (length text)) None
 
 -- the contract of each function here: the text was put into the slice old from `at` on, which left new, and the answer is count
-pub record Put (text : List ℕ) (at : ℕ) (old new : List ℕ) (count : ℕ) : Type 0 where
+pub record Put (text : List ℕ) (at : ℕ) (old new : List ℕ) (count : Option ℕ) : Type 0 where
   pub bytes : new ≡ written text at old
   pub counted : count ≡ written_count text at old

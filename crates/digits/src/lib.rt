@@ -1,4 +1,5 @@
-// Numbers as text, in ASCII, put into a lent slice. A text that has no room there is not written, and the count is 0.
+// Numbers as text, in ASCII, put into a lent slice. Each answers how many bytes were written: none where the text has no
+// room there, and then nothing is written.
 // Put by hand: `write!` writes at the end of a text, and what had no room is lost or cut.
 #![tactic(auto)]
 
@@ -6,56 +7,50 @@ ghost use Rattle.std.specs.Prelude.{◌≡◌, ◌+◌, ◌<◌, ◌≤◌, leb,
 ghost use Rattle.digits.specs.Digits.{code_of, digits, hex_text, decimal_places, decimal, put_at, Put};
 ghost use Rattle.digits.specs.Claim.{Claim};
 
-// Writes n at `at` in decimal, and answers how many bytes were written.
+// Writes n at `at` in decimal.
 #[tactic(auto, unfolding(crate::specs::Digits::decimal))]
-pub fn put_decimal(n: usize, out: &mut [u8], at: usize) -> usize
+pub fn put_decimal(n: usize, out: &mut [u8], at: usize) -> Option<usize>
     ensures { Put (decimal n) at out.old out.new result }
 {
     put_digits(n, 10, decimal_places(n), out, at)
 }
 
-// Writes n at `at` in eight lower-case hex digits, and answers how many bytes were written.
-pub fn put_hex8(n: u32, out: &mut [u8], at: usize) -> usize
+// Writes n at `at` in eight lower-case hex digits.
+pub fn put_hex8(n: u32, out: &mut [u8], at: usize) -> Option<usize>
     ensures { Put (hex_text 8 n) at out.old out.new result }
 {
     put_digits(n as usize, 16, 8, out, at)
 }
 
-// Writes n at `at` in two lower-case hex digits, and answers how many bytes were written.
-pub fn put_hex2(n: u8, out: &mut [u8], at: usize) -> usize
+// Writes n at `at` in two lower-case hex digits.
+pub fn put_hex2(n: u8, out: &mut [u8], at: usize) -> Option<usize>
     ensures { Put (hex_text 2 n) at out.old out.new result }
 {
     put_digits(usize::from(n), 16, 2, out, at)
 }
 
-// How many digits n has in decimal. A `while`, since it goes until the rest is small and counts the turns: no range says that plainer.
-#[tactic(auto, using(crate::proofs::Places::places_small, crate::proofs::Places::places_large))]
+// How many digits n has in decimal.
+#[tactic(auto, using(crate::proofs::Places::counts))]
 fn decimal_places(n: usize) -> usize
     ensures { result ≡ decimal_places n }
 {
-    let mut rest = n;
-    let mut places = 1;
-    while rest >= 10 {
-        rest /= 10;
-        places += 1;
-    }
-    places
+    n.checked_ilog10().map_or(1, |power| power as usize + 1)
 }
 
 // Writes the last width digits of n at `at`, where they have room.
 #[tactic(auto, using(crate::proofs::Length::length_digits), unfolding(crate::specs::Digits::written, crate::specs::Digits::written_count))]
-fn put_digits(n: usize, base: usize, width: usize, out: &mut [u8], at: usize) -> usize
+fn put_digits(n: usize, base: usize, width: usize, out: &mut [u8], at: usize) -> Option<usize>
     requires { (0 < base) × (base ≤ 16) }
     ensures { Put (digits base width n) at out.old out.new result }
 {
     if !fits(width, at, out.len()) {
-        return 0;
+        return None;
     }
     write_digits(n, base, width, out, at);
-    width
+    Some(width)
 }
 
-// From the last digit to the first.
+// From the last digit to the first. By index: after an `iter_mut` a proof knows how long the slice is, and not what it holds.
 fn write_digits(n: usize, base: usize, width: usize, out: &mut [u8], at: usize)
     requires base_nonzero { (0 < base) × (base ≤ 16) }
     requires width_in_bounds { at + width ≤ length out.old }

@@ -2,7 +2,7 @@
 #![tactic(auto)]
 
 ghost use Rattle.std.specs.Prelude.{◌≡◌};
-ghost use Rattle.refusal.specs.Refusal.{number, number_in};
+ghost use Rattle.refusal.specs.Refusal.{number, number_if, number_in};
 
 use std::fmt;
 
@@ -70,4 +70,11 @@ pub fn number_in<T>(answer: &Result<T, Refusal>) -> u8
         Ok(_) => ACCEPTED,
         Err(refusal) => refusal.number(),
     }
+}
+
+// The number of a refusal, where there is one: 0 for none.
+pub fn number_if(refusal: Option<Refusal>) -> u8
+    ensures { result ≡ number_if refusal }
+{
+    refusal.map_or(ACCEPTED, Refusal::number)
 }

@@ -18,16 +18,17 @@ use Rattle.refusal.specs.Refusal.{accepted, number, sheet_length, sheet_pair}
 use Rattle.refusal.proofs.Numbers.{refused}
 use Rattle.steps.specs.Times.{max_entries}
 use Rattle.label.specs.Label.{max_label, text}
-use Rattle.sheet_format.specs.declared.description.Placement.{Placement}
-use Rattle.sheet_format.specs.declared.description.Placement.TheVariants.{Absolute, Start, End, Label as Labeled, Offset}
+use Rattle.sheet_rules.specs.declared.record.Placement.{Placement}
+use Rattle.sheet_rules.specs.declared.record.Placement.TheVariants.{Absolute, Start, End, Label as Labeled, Offset}
 use Rattle.sheet_format.specs.declared.description.Item.{Item}
 use Rattle.words.specs.Pairs.{pair_size, length_in, pairs_in_turn}
 use Rattle.sheet_rules.specs.Rules.{record_size}
 use Rattle.sheet_format.specs.Check.{pair_good, pairs_number, record_number, records_number}
 use Rattle.sheet_format.specs.Descriptions.{item_of, items_from}
-use Rattle.sheet_format.specs.Write.{text_length, target_of, pair_of, pairs_of, record_of, records_of, texts_of, labels_good, target_good, targets_good}
+use Rattle.sheet_format.specs.Write.{text_length, pair_of, pairs_of, record_of, records_of, texts_of, labels_good, targets_good}
+use Rattle.sheet_rules.specs.Placements.{target_of, target_good}
 use Rattle.words.proofs.Bytes.{length-bytes}
-use Rattle.steps.proofs.Tests.{and-true}
+use Rattle.std.proofs.lemmas.Bool.{and_parts}
 
 module _ (n i : ℕ) where
   -- one more turn is left, or none
@@ -161,8 +162,8 @@ length-records (x ∷ xs) =
 pub target_at : (m : ℕ) (xs : List Item) (i : ℕ) (d : Item) → targets_good m xs ≡ true → i < length xs → target_good m (get_or xs i d).at ≡ true
 unfolding targets_good
 target_at m [] i d g h = absurd (not-suc-le-zero h)
-target_at m (x ∷ xs) zero d g h = (and-true (target_good m x.at) (targets_good m xs) g).0
-target_at m (x ∷ xs) (suc i) d g h = target_at m xs i d (and-true (target_good m x.at) (targets_good m xs) g).1 (le_of_suc-le-suc h)
+target_at m (x ∷ xs) zero d g h = (and_parts (target_good m x.at) (targets_good m xs) g).0
+target_at m (x ∷ xs) (suc i) d g h = target_at m xs i d (and_parts (target_good m x.at) (targets_good m xs) g).1 (le_of_suc-le-suc h)
 
 -- the target of a good placement is below the count, or 0
 pub target_below : (m : ℕ) (at : Placement) → target_good m at ≡ true → target_of at ≤ m

@@ -1,5 +1,7 @@
 -- Loop modes (loop_mode.rs; paper 01, part 2).
-use Rattle.std.specs.Prelude.{ℕ, max, Bool, true, false, cond, eqb}
+use Rattle.std.specs.Prelude.{ℕ, max, Bool, true, false, cond, eqb, ltb, Result, Ok, Err}
+use Rattle.refusal.specs.declared.Refusal.{Refusal}
+use Rattle.refusal.specs.declared.Refusal.TheVariants.{SheetLoop}
 use Rattle.tween.specs.declared.loop_mode.Loop.{Loop}
 use Rattle.tween.specs.declared.loop_mode.Loop.TheVariants.{Once, Times, Forever, PingPong, PingPongTimes}
 
@@ -22,6 +24,10 @@ loop_of mode number =
     (cond (eqb mode 1) (Times number)
     (cond (eqb mode 2) Forever
     (cond (eqb mode 3) PingPong (PingPongTimes number))))
+
+-- the mode that a sheet says, or refusal 9: "the loop mode is above 4"
+abbrev pub loop_in : ℕ → ℕ → Result Loop Refusal
+loop_in mode number = cond (ltb 4 mode) (Err SheetLoop) (Ok (loop_of mode number))
 
 -- "mode (order of part 2)", and the loop number, 0 where the mode has none
 abbrev pub mode_of : Loop → ℕ

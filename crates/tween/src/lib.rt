@@ -6,4 +6,4 @@ pub mod loop_mode;
 pub mod stagger_pattern;
 
 pub use loop_mode::Loop;
-pub use stagger_pattern::{GridOrigin, StaggerPattern};
+pub use stagger_pattern::{GridOrigin, StaggerPattern, UnknownOrigin};

@@ -1,6 +1,8 @@
 // Loop modes (loop_mode.rs; paper 01, part 2).
 ghost use Rattle.std.specs.Prelude.{◌≡◌};
-ghost use Rattle.tween.specs.LoopMode.{passes, is_once, loop_of, mode_of, number_of};
+ghost use Rattle.tween.specs.LoopMode.{passes, is_once, loop_in, mode_of, number_of};
+
+use refusal::Refusal;
 
 // What happens when the end of the duration is reached.
 #[derive(Clone, Copy, PartialEq, Eq, Debug)]
@@ -17,22 +19,27 @@ pub enum Loop {
     PingPongTimes(u32),
 }
 
-impl Loop {
-    // The mode by its number in the order above, from 0 on, with its loop number where it has one; above 4 the last.
+// The mode by its number in the order above, from 0 on, with its loop number where it has one; refusal 9 above 4.
+impl TryFrom<(u8, u32)> for Loop {
+    type Error = Refusal;
+
+    ghost try_from_gives = { λ parts r. r ≡ loop_in parts.0 parts.1 };
+
     #[tactic(auto, unfolding(crate::specs::LoopMode::loop_of))]
-    pub fn from_parts(mode: u8, number: u32) -> Loop
-        ensures { result ≡ loop_of mode number }
-    {
+    fn try_from((mode, number): (u8, u32)) -> Result<Loop, Refusal> {
         match mode {
-            0 => Loop::Once,
-            1 => Loop::Times(number),
-            2 => Loop::Forever,
-            3 => Loop::PingPong,
-            _ => Loop::PingPongTimes(number),
+            0 => Ok(Loop::Once),
+            1 => Ok(Loop::Times(number)),
+            2 => Ok(Loop::Forever),
+            3 => Ok(Loop::PingPong),
+            4 => Ok(Loop::PingPongTimes(number)),
+            _ => Err(Refusal::SheetLoop),
         }
     }
+}
 
-    // Its number in that order.
+impl Loop {
+    // Its number in the order above, from 0 on.
     pub fn mode(self) -> u8
         ensures { result ≡ mode_of self }
     {

@@ -1,5 +1,6 @@
 // Delays of staggered starts (stagger_pattern.rs; paper 01, part 3).
 ghost use Rattle.std.specs.Prelude.{◌≡◌, ◌≤◌, ◌<◌};
+ghost use Rattle.std.specs.Result.{result_ok};
 ghost use Rattle.tween.specs.StaggerPattern.{origin_of, max_side, finite_or, distance_delay, from_middle, center_distance, grid_distance, grid_delay, hash, random_delay, center_out, edges_in, delay_of};
 
 use refusal::Refusal;
@@ -27,29 +28,36 @@ pub enum GridOrigin {
     Right,
 }
 
-impl GridOrigin {
-    // The origin by its number in the order above, from 0 on; none above 8.
+// A number that no origin has.
+#[derive(Clone, Copy, PartialEq, Eq, Debug)]
+pub struct UnknownOrigin;
+
+// The origin by its number in the order above, from 0 on; none above 8.
+impl TryFrom<u32> for GridOrigin {
+    type Error = UnknownOrigin;
+
+    ghost try_from_gives = { λ n r. result_ok r ≡ origin_of n };
+
     #[tactic(auto, unfolding(crate::specs::StaggerPattern::origin_of))]
-    pub fn from_number(n: u32) -> Option<GridOrigin>
-        ensures { result ≡ origin_of n }
-    {
+    fn try_from(n: u32) -> Result<GridOrigin, UnknownOrigin> {
         match n {
-            0 => Some(GridOrigin::TopLeft),
-            1 => Some(GridOrigin::TopRight),
-            2 => Some(GridOrigin::BottomLeft),
-            3 => Some(GridOrigin::BottomRight),
-            4 => Some(GridOrigin::Center),
-            5 => Some(GridOrigin::Top),
-            6 => Some(GridOrigin::Bottom),
-            7 => Some(GridOrigin::Left),
-            8 => Some(GridOrigin::Right),
-            _ => None,
+            0 => Ok(GridOrigin::TopLeft),
+            1 => Ok(GridOrigin::TopRight),
+            2 => Ok(GridOrigin::BottomLeft),
+            3 => Ok(GridOrigin::BottomRight),
+            4 => Ok(GridOrigin::Center),
+            5 => Ok(GridOrigin::Top),
+            6 => Ok(GridOrigin::Bottom),
+            7 => Ok(GridOrigin::Left),
+            8 => Ok(GridOrigin::Right),
+            _ => Err(UnknownOrigin),
         }
     }
 }
 
-// How the starts of several items are delayed. The same pattern and index always give the same delay.
-#[derive(Clone, Copy)]
+// How the starts of several items are delayed. The same pattern and index always give the same delay. A grid's sides stand in the
+// variant, as in the Rust: in a struct with their bound they would ask of callers what `delay` answers by refusal 13.
+#[derive(Clone, Copy, PartialEq, Debug)]
 pub enum StaggerPattern {
     // By the distance of a cell from the origin of a grid of `cols` columns and `rows` rows, `step` seconds each.
     Grid {
