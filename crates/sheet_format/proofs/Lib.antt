@@ -1,4 +1,5 @@
 -- Laws of sheets: words, stores, parts, the turns of the loops, and the round trips.
+pub mod Chunks
 pub mod Stores
 pub mod Filling
 pub mod Accepted

@@ -7,7 +7,7 @@ use Rattle.words.specs.declared.Pair.{Pair}
 use Rattle.sheet_rules.specs.Rules.{header_size}
 use Rattle.sheet_format.proofs.Accepted.{pair-good}
 use Rattle.sheet_format.proofs.Turns.{pairs-bad, pairs-more, pairs_end}
-use Rattle.sheet_format.proofs.pairs.check_pairs.Goals as goal
+use Rattle.sheet_format.proofs.sheet.Sheet.check_pairs.Goals as goal
 
 pub returns-then-not-pair_fits : goal.returns-then-not-pair_fits
 returns-then-not-pair_fits c =

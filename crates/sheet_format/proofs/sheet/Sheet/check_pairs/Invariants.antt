@@ -4,7 +4,7 @@ use Prim.Native.Nat.{◌+◌, ◌*◌, ◌-◌, ◌≤◌}
 use lib.ListN.{length, drop}
 use Rattle.sheet_rules.specs.Rules.{header_size, labels_at}
 use Rattle.sheet_format.specs.Check.{pairs_number}
-use Rattle.sheet_format.proofs.pairs.check_pairs.Given as goal
+use Rattle.sheet_format.proofs.sheet.Sheet.check_pairs.Given as goal
 
 abbrev pub invariant-loop-i : goal.invariant-loop-i
 invariant-loop-i l =

@@ -4,7 +4,7 @@ use lib.ListN.{drop}
 use lib.Seq.{drop-drop}
 use Rattle.label.specs.Label.{label_of}
 use Rattle.sheet_format.specs.Check.{duration_in}
-use Rattle.sheet_format.proofs.description.Item.read.Goals as goal
+use Rattle.sheet_format.proofs.sheet.Sheet.item.Goals as goal
 
 pub returns : goal.returns
 returns c =

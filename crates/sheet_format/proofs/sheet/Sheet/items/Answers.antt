@@ -5,7 +5,7 @@ use native.Mathlib.Omega.{arith}
 use Rattle.sheet_rules.specs.Rules.{header_size}
 use Rattle.sheet_format.proofs.Filling.{one-filled, all-filled}
 use Rattle.sheet_format.proofs.Turns.{items_more, items-end}
-use Rattle.sheet_format.proofs.description.read_items.Goals as goal
+use Rattle.sheet_format.proofs.sheet.Sheet.items.Goals as goal
 
 pub loop-i-preserved : goal.loop-i-preserved
 loop-i-preserved c =
