@@ -68,7 +68,7 @@ module _ (rest x more : List ℕ) (e : rest ≡ x ++ more) where
   is_rest m l = rw e (drop_at x more m l)
 
   module _ (l : length x ≡ pair_size) where
-    pairs_left : length rest / pair_size ≡ suc (length more / pair_size)
+    pub pairs_left : length rest / pair_size ≡ suc (length more / pair_size)
     pairs_left = omega (arith, ap length e, length-append x more)
 
     pub pair_bad : (len offset : ℕ) → pair_good offset x ≡ false → pairs_number len offset (length rest / pair_size) rest ≡ sheet_pair

@@ -3,6 +3,7 @@ pub mod Chunks
 pub mod Stores
 pub mod Filling
 pub mod Accepted
+pub mod InTurn
 pub mod Turns
 pub mod Lefts
 pub mod Sheets

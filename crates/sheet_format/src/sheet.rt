@@ -100,7 +100,7 @@ impl<'a> Sheet<'a> {
 
     // The entry whose pair and record are the i-th, or why the record is refused.
     fn item(self, i: usize) -> Result<Item, Refusal>
-        requires { i < self.entry.count }
+        requires { i < self.count }
         ensures number { number_in result ≡ record_number self.entry.count (drop (records_at self.entry.count + record_size * i) self.entry.bytes.now) }
         ensures value { IfOk result (λ item. item ≡ item_of self.entry.bytes.now (drop (header_size + pair_size * i) self.entry.bytes.now) (drop (records_at self.entry.count + record_size * i) self.entry.bytes.now)) }
     {
