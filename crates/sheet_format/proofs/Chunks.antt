@@ -1,7 +1,7 @@
 -- Pairs and records by chunks: each reads in its chunk as in all the bytes, and the chunks in turn are what is checked.
 use Prim.Native.Nat.{ℕ, zero, suc, ◌+◌, ◌-◌, ◌*◌, ◌/◌, ◌≤◌, ◌<◌}
 use mathlib.Core.Path.{◌≡◌, refl, sym, ap, ◌∙◌}
-use mathlib.Core.Bool.{Bool, true, false, cond, not}
+use mathlib.Core.Bool.{true, false, cond, not}
 use mathlib.Core.List.{List, [], ◌∷◌, ◌++◌}
 use native.Mathlib.Nat.{le_of_suc-le-suc}
 use native.Mathlib.Omega.{arith}
@@ -10,7 +10,7 @@ use lib.ListN.{length, take, drop, length-append, length-take, length-drop}
 use lib.Seq.{take-append_seam, drop_at}
 use Rattle.std.proofs.lemmas.List.{drop-take, get_or-take}
 use Rattle.refusal.specs.declared.Refusal.{Refusal}
-use Rattle.refusal.specs.Refusal.{accepted, number, in_turn, sheet_pair, sheet_length}
+use Rattle.refusal.specs.Refusal.{accepted, number, sheet_pair, sheet_length}
 use Rattle.refusal.proofs.Numbers.{refused}
 use Rattle.words.specs.Words.{word}
 use Rattle.words.specs.Pairs.{pair_size, length_in, pairs_in_turn}

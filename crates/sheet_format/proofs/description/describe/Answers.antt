@@ -1,5 +1,4 @@
 -- The description of an accepted sheet, or that of the empty panel.
-use mathlib.Core.Path.{◌≡◌, sym}
 use Rattle.sheet_format.specs.Descriptions.{described_by}
 use Rattle.refusal.proofs.Numbers.{refused}
 use Rattle.sheet_format.proofs.description.describe.Goals as goal

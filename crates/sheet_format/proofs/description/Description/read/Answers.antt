@@ -1,5 +1,5 @@
 -- Header, pairs and records in turn; then the parts of the description.
-use mathlib.Core.Path.{◌≡◌, sym, ◌∙◌}
+use mathlib.Core.Path.{◌≡◌, ◌∙◌}
 use borrow.Author.Rules.{rules}
 use Rattle.refusal.specs.Refusal.{number, number_in}
 use Rattle.sheet_format.specs.Check.{check_number}

@@ -3,11 +3,11 @@ use mathlib.Core.Path.{◌≡◌, sym, ap, ◌∙◌}
 use Prim.Native.Nat.{◌*◌}
 use native.Mathlib.Omega.{arith}
 use borrow.Author.Tests.{eq-eqb, ne_eqb}
-use lib.ListN.{length, take, drop, length-take}
+use lib.ListN.{take, drop, length-take}
 use Rattle.std.specs.Slice.Iter.{chunks_exact_rest}
 use Rattle.words.specs.declared.Pair.{Pair}
 use Rattle.words.specs.Pairs.{pair_size}
-use Rattle.sheet_rules.specs.Rules.{header_size, labels_at}
+use Rattle.sheet_rules.specs.Rules.{header_size}
 use Rattle.sheet_format.proofs.Accepted.{pair-good}
 use Rattle.sheet_format.proofs.Chunks.{pairs_begin, pairs_left, pair_bad, pair_passed, no_pairs}
 use Rattle.sheet_format.proofs.sheet.Sheet.check_pairs.Goals as goal

@@ -1,8 +1,7 @@
 -- What the records so far leave to check: those that are still to come.
-use mathlib.Core.Path.{◌≡◌, sym, ap, ◌∙◌}
+use mathlib.Core.Path.{◌≡◌, sym, ◌∙◌}
 use native.Mathlib.Omega.{arith}
 use borrow.Author.Rules.{rules}
-use Rattle.std.specs.Slice.Iter.{chunks_exact_rest, chunks_exact_size}
 use Rattle.refusal.specs.Refusal.{number, number_in}
 use Rattle.sheet_format.specs.Check.{records_at, record_number}
 use Rattle.sheet_format.proofs.Chunks.{records_begin, record_bad, record_passed, no_records}

@@ -3,7 +3,6 @@ use Prim.Native.Nat.{◌+◌, ◌*◌}
 use mathlib.Core.Path.{◌≡◌, ap, ◌∙◌}
 use borrow.Author.Rules.{rules}
 use lib.ListN.{drop}
-use lib.Seq.{drop-drop}
 use Rattle.std.proofs.lemmas.List.{take_rest}
 use Rattle.refusal.specs.Refusal.{number, number_in}
 use Rattle.label.specs.Label.{label_of}
