@@ -14,22 +14,19 @@ const COUNT_SIZE: usize = 2;
 // Bytes of the two pairs of a code.
 const CODE_SIZE: usize = 8;
 
-// Which of the two a caption is a part of.
+// Which of the two a caption is a part of, by its letter: `S` for the sheet, `L` for the list.
 #[derive(Clone, Copy, Debug, PartialEq, Eq)]
 pub enum Source {
-    Sheet,
-    List,
+    Sheet = b'S' as isize,
+    List = b'L' as isize,
 }
 
 impl Source {
-    // Its letter: `S` for the sheet, `L` for the list.
+    // Its letter.
     pub fn letter(self) -> u8
         ensures { result ≡ letter_of self }
     {
-        match self {
-            Source::Sheet => b'S',
-            Source::List => b'L',
-        }
+        self as u8
     }
 }
 
@@ -61,6 +58,7 @@ fn look_up(list: &[u8], label: &[u8]) -> Result<Option<Pair>, Refusal>
     let n = usize::from(u16_at(list, 0));
     let mut offset = COUNT_SIZE + CODE_SIZE * n;
     let mut first = None;
+    // by offset, and not by `chunks_exact`: of a list shorter than its pairs the rest is read as zeros
     for i in 0..n {
         let at = COUNT_SIZE + CODE_SIZE * i;
         let code = pair_at(list, at);

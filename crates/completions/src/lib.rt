@@ -3,7 +3,7 @@
 // One pass over the cycles counts the completions, and stops as soon as they outnumber the lent list; a second pass writes them.
 #![tactic(auto)]
 
-ghost use Rattle.std.specs.Prelude.{◌≡◌, true, false, ◌+◌, ◌≤◌, min, length, leb, Option, Some, None};
+ghost use Rattle.std.specs.Prelude.{◌≡◌, true, false, cond, ◌+◌, ◌≤◌, min, length, leb, Option, Some, None};
 ghost use mathlib.Core.List.{foldl};
 ghost use Rattle.std.proofs.lemmas.List.Edits.{sets};
 ghost use Rattle.std.specs.Float.Ieee.{is_nan, lt};
@@ -221,8 +221,7 @@ impl Walk {
 
 // The larger of the two: `acc.max(end)`, where acc is no NaN. One test, where `float32::max` has two.
 fn later(acc: f32, end: f32) -> f32
-    requires { is_nan acc ≡ false }
-    ensures { result ≡ max_f acc end }
+    ensures { result ≡ cond (lt acc end) end acc }
 {
     if acc < end { end } else { acc }
 }
@@ -231,11 +230,11 @@ fn later(acc: f32, end: f32) -> f32
 pub fn base(spans: Spans) -> f32
     ensures { result ≡ foldl max_f zero_f (ends spans.entry) }
 {
-    let mut base: f32 = 0.0;
-    for (start, duration) in spans.starts.iter().zip(spans.durations) {
-        base = later(base, *start + *duration);
-    }
-    base
+    spans
+        .starts
+        .iter()
+        .zip(spans.durations)
+        .fold(0.0, |base, (start, duration)| later(base, *start + *duration))
 }
 
 // What of these entries, of which those past `MOST_ENTRIES` are left out, completes in a step, over the front of the list: how

@@ -17,7 +17,8 @@ use Rattle.words.specs.Pairs.{pair_size, offset_in, length_in, part_of, pairs_in
 use Rattle.sheet_rules.specs.Rules.{header_size, record_size, label_fits, labels_at, placement_good, zeros_good}
 use Rattle.sheet_format.specs.Check.{records_at, count_in, pairs_number, kind_in, target_in, seconds_in, record_number, records_number}
 use Rattle.sheet_format.specs.Descriptions.{blank_item, items_in, item_of, items_from, sheet_items, description_in}
-use Rattle.sheet_format.specs.Write.{header_bytes, text_length, pair_of, pairs_of, record_of, records_of, texts_of, sheet_of, labels_good, target_good, targets_good, describe_number}
+use Rattle.sheet_format.specs.Write.{header_bytes, text_length, pair_of, pairs_of, record_of, records_of, texts_of, sheet_of, labels_good, targets_good, describe_number}
+use Rattle.sheet_rules.specs.Placements.{target_good}
 use Rattle.words.proofs.Bytes.{Bytes, bytes_drop, bytes_word}
 use Rattle.refusal.proofs.Checks.{passed_good, in_turn_lem}
 use Rattle.words.proofs.InTurn.{ends, front}

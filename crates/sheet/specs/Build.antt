@@ -8,8 +8,8 @@ use Rattle.timeline.specs.declared.timeline.At.TheVariants.{Absolute as AtSecond
 use Rattle.timeline.specs.declared.timeline.Timeline.{Timeline}
 use Rattle.timeline.specs.Placements.{empty}
 use Rattle.timeline.specs.Calls.{Call, Add, AddAtLabel, On, after}
-use Rattle.sheet_format.specs.declared.description.Placement.{Placement}
-use Rattle.sheet_format.specs.declared.description.Placement.TheVariants.{Absolute, Start, End, Label as Labeled, Offset}
+use Rattle.sheet_rules.specs.declared.record.Placement.{Placement}
+use Rattle.sheet_rules.specs.declared.record.Placement.TheVariants.{Absolute, Start, End, Label as Labeled, Offset}
 use Rattle.sheet_format.specs.declared.description.Item.{Item}
 use Rattle.sheet_format.specs.declared.description.Description.{Description}
 use Rattle.sheet_format.specs.Check.{check_number}

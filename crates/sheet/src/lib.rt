@@ -21,7 +21,7 @@ pub struct Reading {
     pub timeline: Timeline,
 }
 
-// A placement, with floats.
+// A placement, with floats. A function, since both types are of other crates: `From` may not be written here.
 fn at_of(at: Placement) -> At
     ensures { result ≡ at_of at }
 {
@@ -33,45 +33,21 @@ fn at_of(at: Placement) -> At
     }
 }
 
-// The timeline with an entry at its own placement.
-fn add_placed(timeline: Timeline, item: &Item) -> Timeline
-    ensures { result ≡ (step timeline (placed_call item.now)).timeline }
-{
-    timeline
-        .add(
-            item.label.text(),
-            at_of(item.at),
-            float32::from_bits(item.duration),
-        )
-        .unwrap_or(timeline)
-}
-
-// The timeline with an entry where the first one with the target's label starts.
-fn add_named(timeline: Timeline, item: &Item, target: &Item) -> Timeline
-    ensures { result ≡ (step timeline (AddAtLabel (text item.now.label) (text target.now.label) (from_bits item.now.duration))).timeline }
-{
-    timeline
-        .add_at_label(
-            item.label.text(),
-            target.label.text(),
-            float32::from_bits(item.duration),
-        )
-        .unwrap_or(timeline)
-}
-
-// The timeline with one of these entries.
+// The timeline with one of these entries: at its own placement, or where the first one with its target's label starts.
 fn add_item(timeline: Timeline, items: &[Item], item: &Item) -> Timeline
     ensures { result ≡ (step timeline (call_at items.now item.now.at item.now)).timeline }
 {
-    match item.at {
-        Placement::Label(k) => match items.get(k) {
-            Some(target) => add_named(timeline, item, target),
-            None => add_placed(timeline, item),
-        },
-        Placement::Absolute(_) | Placement::Start | Placement::End | Placement::Offset(_) => {
-            add_placed(timeline, item)
-        }
-    }
+    let label = item.label.text();
+    let duration = float32::from_bits(item.duration);
+    let target = match item.at {
+        Placement::Label(k) => items.get(k),
+        Placement::Absolute(_) | Placement::Start | Placement::End | Placement::Offset(_) => None,
+    };
+    let added = match target {
+        Some(target) => timeline.add_at_label(label, target.label.text(), duration),
+        None => timeline.add(label, at_of(item.at), duration),
+    };
+    added.unwrap_or(timeline)
 }
 
 // The timeline that a description builds.

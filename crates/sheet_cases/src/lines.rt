@@ -70,14 +70,8 @@ fn item(sink: &mut Sink, item: &Item) {
 
 // ` kind target seconds`
 fn placed(sink: &mut Sink, placement: Placement) {
-    let (kind, target, seconds) = match placement {
-        Placement::Absolute(seconds) => (0, 0, seconds),
-        Placement::Start => (1, 0, 0),
-        Placement::End => (2, 0, 0),
-        Placement::Label(target) => (3, target, 0),
-        Placement::Offset(seconds) => (4, 0, seconds),
-    };
-    sink.number(b' ', kind);
+    let (kind, target, seconds) = placement.parts();
+    sink.number(b' ', usize::from(kind));
     sink.number(b' ', target);
     sink.bits(b' ', seconds);
 }

@@ -7,12 +7,12 @@ use borrow.Author.Tests.{eqb-true, leb-true}
 use lib.Dec.{leb}
 use Rattle.tween.specs.declared.loop_mode.Loop.{Loop}
 use Rattle.tween.specs.declared.loop_mode.Loop.TheVariants.{Once, Times, Forever, PingPong, PingPongTimes}
-use Rattle.sheet_format.specs.declared.description.Placement.{Placement}
-use Rattle.sheet_format.specs.declared.description.Placement.TheVariants.{Absolute, Start, End, Label as Labeled, Offset}
+use Rattle.sheet_rules.specs.declared.record.Placement.{Placement}
+use Rattle.sheet_rules.specs.declared.record.Placement.TheVariants.{Absolute, Start, End, Label as Labeled, Offset}
 use Rattle.sheet_rules.specs.Rules.{loop_good, placement_good, zeros_good}
 use Rattle.tween.specs.LoopMode.{loop_of, mode_of, number_of}
 use Rattle.sheet_format.specs.Descriptions.{placement_of}
-use Rattle.sheet_format.specs.Write.{kind_of, target_of, seconds_of, target_good}
+use Rattle.sheet_rules.specs.Placements.{kind_of, target_of, seconds_of, target_good}
 use Rattle.steps.proofs.Tests.{and-true}
 
 -- what holds of 0 to 4 holds up to 4

@@ -17,7 +17,8 @@ use Rattle.words.specs.Pairs.{pair_size, offset_in, length_in, part_of, pairs_in
 use Rattle.sheet_rules.specs.Rules.{header_size, record_size, labels_at}
 use Rattle.sheet_format.specs.Check.{records_at, count_in, header_number, pairs_number, kind_in, target_in, seconds_in, duration_in, record_number, records_number, check_number}
 use Rattle.sheet_format.specs.Descriptions.{described_by, blank_item, items_in, item_of, items_from, sheet_items, description_in, clean_item, cleaned}
-use Rattle.sheet_format.specs.Write.{kind_of, target_of, seconds_of, header_bytes, text_length, pair_of, pairs_of, record_of, records_of, texts_of, sheet_of, labels_good, target_good, targets_good, describe_number, ReadsBack}
+use Rattle.sheet_format.specs.Write.{header_bytes, text_length, pair_of, pairs_of, record_of, records_of, texts_of, sheet_of, labels_good, targets_good, describe_number, ReadsBack}
+use Rattle.sheet_rules.specs.Placements.{kind_of, target_of, seconds_of, target_good}
 use Rattle.words.proofs.Bytes.{length-bytes, word_bytes}
 use Rattle.sheet_format.proofs.Accepted.{Header, Accepted}
 use Rattle.steps.proofs.Tests.{and-true}

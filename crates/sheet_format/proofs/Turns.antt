@@ -18,14 +18,15 @@ use Rattle.refusal.specs.Refusal.{accepted, number, sheet_length, sheet_pair}
 use Rattle.refusal.proofs.Numbers.{refused}
 use Rattle.steps.specs.Times.{max_entries}
 use Rattle.label.specs.Label.{max_label, text}
-use Rattle.sheet_format.specs.declared.description.Placement.{Placement}
-use Rattle.sheet_format.specs.declared.description.Placement.TheVariants.{Absolute, Start, End, Label as Labeled, Offset}
+use Rattle.sheet_rules.specs.declared.record.Placement.{Placement}
+use Rattle.sheet_rules.specs.declared.record.Placement.TheVariants.{Absolute, Start, End, Label as Labeled, Offset}
 use Rattle.sheet_format.specs.declared.description.Item.{Item}
 use Rattle.words.specs.Pairs.{pair_size, length_in, pairs_in_turn}
 use Rattle.sheet_rules.specs.Rules.{record_size}
 use Rattle.sheet_format.specs.Check.{pair_good, pairs_number, record_number, records_number}
 use Rattle.sheet_format.specs.Descriptions.{item_of, items_from}
-use Rattle.sheet_format.specs.Write.{text_length, target_of, pair_of, pairs_of, record_of, records_of, texts_of, labels_good, target_good, targets_good}
+use Rattle.sheet_format.specs.Write.{text_length, pair_of, pairs_of, record_of, records_of, texts_of, labels_good, targets_good}
+use Rattle.sheet_rules.specs.Placements.{target_of, target_good}
 use Rattle.words.proofs.Bytes.{length-bytes}
 use Rattle.steps.proofs.Tests.{and-true}
 

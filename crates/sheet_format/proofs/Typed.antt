@@ -13,14 +13,14 @@ use Rattle.label.specs.Label.{max_label}
 use Rattle.tween.specs.declared.loop_mode.Loop.{Loop}
 use Rattle.tween.specs.declared.loop_mode.Loop.TheVariants.{Once, Times, Forever, PingPong, PingPongTimes}
 use Rattle.tween.specs.contracts.loop_mode.Loop as L
-use Rattle.sheet_format.specs.declared.description.Placement.{Placement}
-use Rattle.sheet_format.specs.declared.description.Placement.TheVariants.{Absolute, Start, End, Label as Labeled, Offset}
+use Rattle.sheet_rules.specs.declared.record.Placement.{Placement}
+use Rattle.sheet_rules.specs.declared.record.Placement.TheVariants.{Absolute, Start, End, Label as Labeled, Offset}
 use Rattle.sheet_format.specs.declared.description.Item.{Item}
 use Rattle.sheet_format.specs.declared.description.Description.{Description}
 use Rattle.sheet_format.specs.Descriptions.{blank_item}
 use Rattle.tween.specs.LoopMode.{number_of}
-use Rattle.sheet_format.specs.Write.{seconds_of}
-use Rattle.sheet_format.specs.contracts.description.Placement as P
+use Rattle.sheet_rules.specs.Placements.{seconds_of}
+use Rattle.sheet_rules.specs.contracts.record.Placement as P
 use Rattle.sheet_format.specs.contracts.description.Item as I
 use Rattle.sheet_format.specs.contracts.description.Description as D
 

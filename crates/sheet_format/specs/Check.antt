@@ -1,6 +1,6 @@
 -- The number by which a sheet is refused, for every byte string (paper 01, "The sheet" and "Checks"). Definitions only.
 use Rattle.std.specs.Prelude.{ℕ, zero, suc, ◌+◌, ◌*◌, Bool, List, ltb, length, drop}
-use Rattle.sheet_rules.specs.declared.Record.{Record}
+use Rattle.sheet_rules.specs.declared.record.Record.{Record}
 use Rattle.refusal.specs.Refusal.{accepted, sheet_length, sheet_pair, refused_if, in_turn}
 use Rattle.words.specs.Pairs.{pair_size, offset_in, length_in, pairs_in_turn}
 use Rattle.sheet_rules.specs.Rules.{header_size, record_size, labels_at, header_refusal, label_fits, pair_fits, record_refusal}

@@ -6,8 +6,8 @@ use Rattle.steps.specs.Times.{max_entries}
 use Rattle.tween.specs.declared.loop_mode.Loop.TheVariants.{Once}
 use Rattle.tween.specs.LoopMode.{loop_of}
 use Rattle.label.specs.Label.{text, with_text, label_of}
-use Rattle.sheet_format.specs.declared.description.Placement.{Placement}
-use Rattle.sheet_format.specs.declared.description.Placement.TheVariants.{Absolute, Start, End, Label as Labeled, Offset}
+use Rattle.sheet_rules.specs.declared.record.Placement.TheVariants.{Start}
+unfoldable pub use Rattle.sheet_rules.specs.Placements.{placement_of}
 use Rattle.sheet_format.specs.declared.description.Item.{Item}
 use Rattle.sheet_format.specs.declared.description.Description.{Description}
 use Rattle.sheet_format.specs.declared.description.Described.{Described}
@@ -31,14 +31,6 @@ unfoldable pub empty_description : Description
 empty_description = record { count = 0; looping = Once; time_scale = 0x3f800000; items = replicate max_entries blank_item }
 
 -- ---- what the bytes say
-
--- "kind (order above)"
-unfoldable pub placement_of : ℕ → ℕ → ℕ → Placement
-placement_of kind target seconds =
-    cond (eqb kind 0) (Absolute seconds)
-    (cond (eqb kind 1) Start
-    (cond (eqb kind 2) End
-    (cond (eqb kind 3) (Labeled target) (Offset seconds))))
 
 -- the entry whose pair and record are at the front
 abbrev pub item_of : List ℕ → List ℕ → List ℕ → Item

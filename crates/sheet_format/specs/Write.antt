@@ -6,37 +6,14 @@ use Rattle.steps.specs.Times.{max_entries}
 use Rattle.tween.specs.declared.loop_mode.Loop.{Loop}
 use Rattle.tween.specs.LoopMode.{mode_of, number_of}
 use Rattle.label.specs.Label.{max_label, text}
-use Rattle.sheet_format.specs.declared.description.Placement.{Placement}
-use Rattle.sheet_format.specs.declared.description.Placement.TheVariants.{Absolute, Start, End, Label as Labeled, Offset}
 use Rattle.sheet_format.specs.declared.description.Item.{Item}
 use Rattle.sheet_format.specs.declared.description.Description.{Description}
 use Rattle.words.specs.Words.{bytes_of}
 use Rattle.sheet_rules.specs.Rules.{labels_at}
+use Rattle.sheet_rules.specs.Placements.{kind_of, target_of, seconds_of, target_good}
 use Rattle.sheet_format.specs.Descriptions.{items_in, described_by, cleaned}
 
 -- ---- the bytes
-
--- "kind (order above), target", and the seconds bits, 0 where the kind has none
-abbrev pub kind_of : Placement → ℕ
-kind_of (Absolute s) = 0
-kind_of Start = 1
-kind_of End = 2
-kind_of (Labeled k) = 3
-kind_of (Offset s) = 4
-
-abbrev pub target_of : Placement → ℕ
-target_of (Absolute s) = 0
-target_of Start = 0
-target_of End = 0
-target_of (Labeled k) = k
-target_of (Offset s) = 0
-
-abbrev pub seconds_of : Placement → ℕ
-seconds_of (Absolute s) = s
-seconds_of Start = 0
-seconds_of End = 0
-seconds_of (Labeled k) = 0
-seconds_of (Offset s) = s
 
 -- "Byte 0 version, 1 count n, 2 mode, 3 zero; 4 to 7 loop number; 8 to 11 scale bits"
 unfoldable pub header_bytes : ℕ → Loop → ℕ → List ℕ
@@ -82,15 +59,7 @@ unfoldable pub labels_good : List Item → Bool
 labels_good [] = true
 labels_good (x ∷ xs) = leb x.label.len max_label && labels_good xs
 
--- "target not below the count"
-abbrev pub target_good : ℕ → Placement → Bool
-target_good n (Absolute s) = true
-target_good n Start = true
-target_good n End = true
-target_good n (Labeled k) = ltb k n
-target_good n (Offset s) = true
-
--- of every entry
+-- "target not below the count", of every entry
 unfoldable pub targets_good : ℕ → List Item → Bool
 targets_good n [] = true
 targets_good n (x ∷ xs) = target_good n x.at && targets_good n xs

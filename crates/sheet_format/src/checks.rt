@@ -3,17 +3,14 @@ ghost use Rattle.std.specs.Prelude.{◌≡◌};
 ghost use Rattle.refusal.specs.Refusal.{number_in};
 ghost use Rattle.sheet_format.specs.Check.{check_number};
 
-use crate::header::{check_header, count};
-use crate::pairs::check_pairs;
-use crate::records::check_records;
+use crate::sheet::Sheet;
 use refusal::Refusal;
 
 // Whether a sheet is accepted, or why it is refused.
 pub fn check(sheet: &[u8]) -> Result<(), Refusal>
     ensures { number_in result ≡ check_number sheet.now }
 {
-    check_header(sheet)?;
-    let n = count(sheet);
-    check_pairs(sheet, n)?;
-    check_records(sheet, n)
+    let sheet = Sheet::of(sheet)?;
+    sheet.check_pairs()?;
+    sheet.check_records()
 }

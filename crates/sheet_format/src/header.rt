@@ -1,16 +1,14 @@
 // The header: version, count, mode, loop number, scale bits.
 ghost use Rattle.std.specs.Prelude.{◌≡◌, ◌≤◌, length};
 ghost use Rattle.digits.specs.Digits.{put_at};
-ghost use Rattle.refusal.specs.Refusal.{number_in};
 ghost use Rattle.sheet_rules.specs.Rules.{header_size, labels_at};
-ghost use Rattle.sheet_format.specs.Check.{records_at, count_in, header_number};
+ghost use Rattle.sheet_format.specs.Check.{records_at, count_in};
 ghost use Rattle.sheet_format.specs.Write.{header_bytes};
 
 use crate::put::put;
-use refusal::Refusal;
-use sheet_rules::{HEADER_SIZE, Header, RECORD_SIZE, VERSION};
+use sheet_rules::{HEADER_SIZE, RECORD_SIZE, VERSION};
 use tween::Loop;
-use words::{PAIR_SIZE, u32_at};
+use words::PAIR_SIZE;
 
 // Where the records of n entries start.
 pub(crate) fn records_at(n: usize) -> usize
@@ -36,24 +34,6 @@ pub fn count(sheet: &[u8]) -> usize
         [_, n, ..] => usize::from(*n),
         _ => 0,
     }
-}
-
-// Checks the header; where it is accepted, all pairs and records are in the sheet.
-#[tactic(auto, unfolding(crate::specs::Check::header_number))]
-pub(crate) fn check_header(sheet: &[u8]) -> Result<(), Refusal>
-    ensures { number_in result ≡ header_number sheet.now }
-{
-    if sheet.len() < HEADER_SIZE {
-        return Err(Refusal::SheetLength);
-    }
-    let header = Header {
-        version: sheet[0],
-        count: sheet[1],
-        mode: sheet[2],
-        reserved: sheet[3],
-        number: u32_at(sheet, 4),
-    };
-    header.check(sheet.len())
 }
 
 // Writes the header.

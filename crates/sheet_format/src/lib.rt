@@ -7,6 +7,7 @@ pub mod header;
 mod pairs;
 mod put;
 mod records;
+mod sheet;
 pub mod writing;
 
 pub use checks::check;

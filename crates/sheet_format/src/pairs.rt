@@ -1,38 +1,16 @@
-// The pairs: where each label starts, and how long it is.
-ghost use Rattle.std.specs.Prelude.{◌≡◌, ◌+◌, ◌<◌, ◌≤◌, length, drop};
+// Writing the pairs.
+ghost use Rattle.std.specs.Prelude.{◌≡◌, ◌+◌, ◌<◌, ◌≤◌, length};
 ghost use Rattle.steps.specs.Times.{max_entries};
 ghost use Rattle.digits.specs.Digits.{put_at};
-ghost use Rattle.refusal.specs.Refusal.{number_in};
 ghost use Rattle.words.specs.Pairs.{pair_size};
 ghost use Rattle.sheet_rules.specs.Rules.{header_size, labels_at};
-ghost use Rattle.sheet_format.specs.Check.{pairs_number};
 ghost use Rattle.sheet_format.specs.Write.{pair_of, pairs_of};
 
 use crate::description::Item;
 use crate::header::labels_at;
 use crate::put::put;
-use refusal::Refusal;
-use sheet_rules::{HEADER_SIZE, pair_fits};
-use words::{PAIR_SIZE, pair_at};
-
-// By offset, as crate words reads: each pair starts where the one before ends, and the last ends the sheet.
-pub(crate) fn check_pairs(sheet: &[u8], n: usize) -> Result<(), Refusal>
-    requires { (n ≤ max_entries) × (labels_at n ≤ length sheet.now) }
-    ensures { number_in result ≡ pairs_number (length sheet.now) (labels_at n) n (drop header_size sheet.now) }
-{
-    let mut offset = labels_at(n);
-    for i in 0..n {
-        let pair = pair_at(sheet, HEADER_SIZE + PAIR_SIZE * i);
-        if !pair_fits(offset, pair) {
-            return Err(Refusal::SheetPair);
-        }
-        offset += pair.len;
-    }
-    if offset != sheet.len() {
-        return Err(Refusal::SheetLength);
-    }
-    Ok(())
-}
+use sheet_rules::HEADER_SIZE;
+use words::PAIR_SIZE;
 
 // Writes the pairs of these entries, whose labels start behind the records.
 pub(crate) fn put_pairs(room: &mut [u8], items: &[Item])
@@ -41,6 +19,7 @@ pub(crate) fn put_pairs(room: &mut [u8], items: &[Item])
 {
     let mut at = HEADER_SIZE;
     let mut offset = labels_at(items.len());
+    // `at` by hand: after `chunks_mut` a proof knows the length of `room` only
     for item in items {
         let len = item.label.text().len();
         put_pair(room, at, offset, len);

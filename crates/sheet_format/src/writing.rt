@@ -44,6 +44,7 @@ fn put_texts(room: &mut [u8], items: &[Item], start: usize)
     ensures { room.new ≡ put_at (texts_of items.now) start room.old }
 {
     let mut at = start;
+    // `at` by hand, as in `put_pairs`
     for item in items {
         let text = item.label.text();
         put(room, at, text);

@@ -108,6 +108,7 @@ impl Playhead {
     }
 
     // The run: `playback_duration`.
+    #[tactic(auto, unfolding(crate::specs::Columns::track_of))]
     pub fn playback_duration(self, spans: Spans<'_>, marks: &[bool]) -> f32
         ensures { result ≡ track_run (lent_track self spans.entry marks) }
     {
@@ -115,6 +116,7 @@ impl Playhead {
     }
 
     // `progress`
+    #[tactic(auto, unfolding(crate::specs::Columns::track_of))]
     pub fn progress(self, spans: Spans<'_>, marks: &[bool]) -> f32
         ensures { result ≡ progress_of (lent_track self spans.entry marks) }
     {
@@ -123,6 +125,7 @@ impl Playhead {
 }
 
 // `progress` at an elapsed time.
+#[tactic(auto, unfolding(crate::specs::Tracks::progress_in))]
 pub fn progress_in(run: Run, elapsed: f32) -> f32
     ensures { result ≡ progress_in run.mode run.base (run_of run.mode run.base) elapsed }
 {
@@ -142,6 +145,7 @@ pub fn progress_in(run: Run, elapsed: f32) -> f32
 // The loops go by index: after `iter_mut` a proof knows how many entries there are, and not what was written.
 impl Track {
     // `Timeline::new`
+    #[tactic(auto, unfolding(crate::specs::Tracks::empty_track))]
     pub fn new() -> Track
         ensures { result ≡ empty_track }
     {

@@ -4,7 +4,7 @@ use borrow.Author.Rules.{rules}
 use Rattle.std.proofs.lemmas.Iterator.{YieldsList-from_slice}
 use Rattle.std.proofs.lemmas.Iterator.Search.{all_from_yields_List}
 use Rattle.sheet_format.specs.declared.description.Item.{Item}
-use Rattle.sheet_format.specs.Write.{target_good}
+use Rattle.sheet_rules.specs.Placements.{target_good}
 use Rattle.sheet_format.proofs.Turns.{targets-all}
 use Rattle.sheet_format.proofs.writing.targets_good.Goals as goal
 
