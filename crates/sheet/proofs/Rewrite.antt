@@ -23,8 +23,8 @@ use Rattle.words.proofs.Bytes.{Bytes, bytes_drop, bytes_word}
 use Rattle.refusal.proofs.Checks.{passed_good, in_turn_lem}
 use Rattle.words.proofs.InTurn.{ends, front}
 use Rattle.sheet_format.proofs.Accepted.{Accepted}
-use Rattle.steps.proofs.Tests.{and-true}
-use Rattle.sheet_format.proofs.Five.{loop_back, placement_back}
+use Rattle.std.proofs.lemmas.Bool.{and_parts}
+use Rattle.sheet_rules.proofs.Five.{loop_back, placement_back}
 
 -- the first four bytes
 four : (s : List ℕ) → 4 ≤ length s → take 4 s ≡ byte_at s 0 ∷ byte_at s 1 ∷ byte_at s 2 ∷ byte_at s 3 ∷ []
@@ -109,8 +109,8 @@ module _ (s : List ℕ) where
     record-back pairs records h y e =
         let p = passed_good (placement_good n (kind_in records) (target_in records)) 9 _ e in
         let z = passed_good (zeros_good (kind_in records) (byte_at records 2) (byte_at records 3) (seconds_in records)) 11 _ p.1 in
-        let a = and-true (eqb (byte_at records 2) 0 && eqb (byte_at records 3) 0) _ z.0 in
-        let b = and-true (eqb (byte_at records 2) 0) (eqb (byte_at records 3) 0) a.0 in
+        let a = and_parts (eqb (byte_at records 2) 0 && eqb (byte_at records 3) 0) _ z.0 in
+        let b = and_parts (eqb (byte_at records 2) 0) (eqb (byte_at records 3) 0) a.0 in
         let r = placement_back n (kind_in records) (target_in records) (seconds_in records) p.0 a.1 in
         record {
           same = rw (r.kind-same, r.target-same, r.seconds-same) (twelve records 0 0 h y (eqb-true _ _ b.0) (eqb-true _ _ b.1));

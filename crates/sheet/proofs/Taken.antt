@@ -27,7 +27,7 @@ use Rattle.sheet_format.specs.Check.{records_at, count_in, check_number}
 use Rattle.sheet_format.specs.Descriptions.{items_in, description_in}
 use Rattle.sheet_format.specs.Write.{labels_good}
 use Rattle.sheet_format.proofs.Accepted.{accepted-sheet}
-use Rattle.steps.proofs.Tests.{and-true}
+use Rattle.std.proofs.lemmas.Bool.{and_parts}
 use Rattle.sheet.specs.Build.{no_item, at_of, placed_call, call_at, calls_from, calls_of, read_calls}
 use Rattle.sheet.specs.Claim.{AllAccepted}
 use Rattle.sheet.proofs.Rewrite.{length-itemsFrom, labels-good, items-same}
@@ -68,7 +68,7 @@ entries_taken : (items xs : List Item) (t : Timeline) (n : ℕ) → t.track.coun
 unfolding calls_from labels_good
 entries_taken items [] t n e h g = tt
 entries_taken items (x ∷ xs) t n e h g =
-    let b = and-true (leb x.label.len max_label) (labels_good xs) g in
+    let b = and_parts (leb x.label.len max_label) (labels_good xs) g in
     let a = called t x (omega arith) (leb-true x.label.len max_label b.0) items x.at in
     (a.refusal, entries_taken items xs (step t (call_at items x.at x)).timeline (n + 1) (a.count ∙ ap (λ (k : ℕ). k + 1) e) (omega arith) b.1)
 

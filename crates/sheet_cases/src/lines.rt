@@ -15,7 +15,7 @@ use case_io::fields;
 use case_io::fields::digit;
 use case_io::text::Sink;
 use label::Label;
-use refusal::{ACCEPTED, number_in};
+use refusal::{number_if, number_in};
 use sheet_format::description::{Description, Item, Placement};
 use steps::Entry;
 use timeline::timeline::Timeline;
@@ -30,8 +30,7 @@ pub const OLD: u8 = 238;
 // The lines of a sheet.
 pub(crate) fn sheet(sink: &mut Sink, bytes: &[u8]) {
     let reading = sheet::read(bytes);
-    let number = reading.refusal.map_or(ACCEPTED, |r| r.number());
-    sink.decimal(usize::from(number));
+    sink.decimal(usize::from(number_if(reading.refusal)));
     description(sink, &reading.described);
     timeline(sink, &reading.timeline);
     if reading.refusal.is_some() {

@@ -12,7 +12,7 @@ use Rattle.refusal.proofs.Checks.{passed, passed_good, in_turn_lem}
 use Rattle.sheet_rules.specs.Rules.{header_size, labels_at, loop_good}
 use Rattle.words.specs.Pairs.{offset_in, length_in}
 use Rattle.sheet_format.specs.Check.{records_at, count_in, header_number, pair_good, pairs_number, records_number, check_number}
-use Rattle.steps.proofs.Tests.{and-true}
+use Rattle.std.proofs.lemmas.Bool.{and_parts}
 
 pub record Header (s : List ℕ) : Type 0 where
   pub long : header_size ≤ length s
@@ -55,5 +55,5 @@ accepted-sheet s e =
 -- a label that starts at the offset, and is no longer than a label can be
 pub pair-good : (offset : ℕ) (pairs : List ℕ) → pair_good offset pairs ≡ true → (offset_in pairs ≡ offset) × (length_in pairs ≤ max_label)
 pair-good offset pairs g =
-    let t = and-true _ _ g in
+    let t = and_parts _ _ g in
     (eqb-true _ _ t.0, leb-true _ _ t.1)

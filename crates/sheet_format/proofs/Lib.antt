@@ -6,5 +6,4 @@ pub mod Turns
 pub mod Lefts
 pub mod Sheets
 pub mod Typed
-pub mod Five
 pub mod ReadBack

@@ -21,11 +21,11 @@ use Rattle.sheet_format.specs.Write.{header_bytes, text_length, pair_of, pairs_o
 use Rattle.sheet_rules.specs.Placements.{kind_of, target_of, seconds_of, target_good}
 use Rattle.words.proofs.Bytes.{length-bytes, word_bytes}
 use Rattle.sheet_format.proofs.Accepted.{Header, Accepted}
-use Rattle.steps.proofs.Tests.{and-true}
+use Rattle.std.proofs.lemmas.Bool.{and_parts}
 use Rattle.sheet_format.proofs.Turns.{length-pair, length-record, length_pairs, length-records}
 use Rattle.sheet_format.proofs.Sheets.{Good, described, length-header, length-items, length-sheet}
 use Rattle.sheet_format.proofs.Typed.{TypedItem, Typed, blank-typed}
-use Rattle.sheet_format.proofs.Five.{loop_same, loop_good_lem, placement_same, placement_good_lem, zeros_good_lem}
+use Rattle.sheet_rules.proofs.Five.{loop_same, loop_good_lem, placement_same, placement_good_lem, zeros_good_lem}
 
 -- ---- what the checks ask, they accept
 
@@ -99,7 +99,7 @@ pub texts-short : (xs : List Item) → labels_good xs ≡ true → length (texts
 unfolding labels_good texts_of
 texts-short [] g = omega arith
 texts-short (x ∷ xs) g =
-    let a = and-true (leb x.label.len max_label) (labels_good xs) g in
+    let a = and_parts (leb x.label.len max_label) (labels_good xs) g in
     let h = short x a.0 in
     let rest = texts-short xs a.1 in
     omega (arith, length-append (text x.label) (texts_of xs))
@@ -113,7 +113,7 @@ pairs_accepted : (len offset : ℕ) (xs : List Item) (rest : List ℕ) → label
 unfolding pairs_of labels_good texts_of
 pairs_accepted len offset [] rest g e h = pairs_last len offset rest (omega arith)
 pairs_accepted len offset (x ∷ xs) rest g e h =
-    let a = and-true (leb x.label.len max_label) (labels_good xs) g in
+    let a = and_parts (leb x.label.len max_label) (labels_good xs) g in
     let m = short x a.0 in
     let l = length-append (text x.label) (texts_of xs) in
     let more = pairs_of (offset + text_length x) xs in
@@ -141,7 +141,7 @@ records_accepted : (n : ℕ) (xs : List Item) (rest : List ℕ) → Each xs → 
 unfolding records_of targets_good Each
 records_accepted n [] rest t g = records_last n rest
 records_accepted n (x ∷ xs) rest t g =
-    let a = and-true (target_good n x.at) (targets_good n xs) g in
+    let a = and_parts (target_good n x.at) (targets_good n xs) g in
     rw (append_assoc (record_of x) (records_of xs) rest)
     (records_step n (length xs) x _ _ (record_front x (records_of xs ++ rest) (t 0)) a.0 ∙ records_accepted n xs rest (λ i. t (suc i)) a.1)
 
@@ -168,7 +168,7 @@ items_read : (s : List ℕ) (offset : ℕ) (xs : List Item) (a b : List ℕ) →
 unfolding pairs_of records_of texts_of labels_good Each
 items_read s offset [] a b t g d h = items_last s a b
 items_read s offset (x ∷ xs) a b t g d h =
-    let u = and-true (leb x.label.len max_label) (labels_good xs) g in
+    let u = and_parts (leb x.label.len max_label) (labels_good xs) g in
     let m = short x u.0 in
     let l = length-append (text x.label) (texts_of xs) in
     let pairs = pairs_of (offset + text_length x) xs in

@@ -28,7 +28,7 @@ use Rattle.sheet_format.specs.Descriptions.{item_of, items_from}
 use Rattle.sheet_format.specs.Write.{text_length, pair_of, pairs_of, record_of, records_of, texts_of, labels_good, targets_good}
 use Rattle.sheet_rules.specs.Placements.{target_of, target_good}
 use Rattle.words.proofs.Bytes.{length-bytes}
-use Rattle.steps.proofs.Tests.{and-true}
+use Rattle.std.proofs.lemmas.Bool.{and_parts}
 
 module _ (n i : ℕ) where
   -- one more turn is left, or none
@@ -162,8 +162,8 @@ length-records (x ∷ xs) =
 pub target_at : (m : ℕ) (xs : List Item) (i : ℕ) (d : Item) → targets_good m xs ≡ true → i < length xs → target_good m (get_or xs i d).at ≡ true
 unfolding targets_good
 target_at m [] i d g h = absurd (not-suc-le-zero h)
-target_at m (x ∷ xs) zero d g h = (and-true (target_good m x.at) (targets_good m xs) g).0
-target_at m (x ∷ xs) (suc i) d g h = target_at m xs i d (and-true (target_good m x.at) (targets_good m xs) g).1 (le_of_suc-le-suc h)
+target_at m (x ∷ xs) zero d g h = (and_parts (target_good m x.at) (targets_good m xs) g).0
+target_at m (x ∷ xs) (suc i) d g h = target_at m xs i d (and_parts (target_good m x.at) (targets_good m xs) g).1 (le_of_suc-le-suc h)
 
 -- the target of a good placement is below the count, or 0
 pub target_below : (m : ℕ) (at : Placement) → target_good m at ≡ true → target_of at ≤ m

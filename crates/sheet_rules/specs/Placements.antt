@@ -1,5 +1,5 @@
 -- Where an entry is placed: what a record's numbers say, and the numbers that say it. Definitions only.
-use Rattle.std.specs.Prelude.{ℕ, Bool, true, cond, eqb, leb, ltb, Result, Ok, Err}
+use Rattle.std.specs.Prelude.{ℕ, Bool, true, cond, eqb, ltb, Result, Ok, Err}
 use Rattle.refusal.specs.declared.Refusal.{Refusal}
 use Rattle.refusal.specs.declared.Refusal.TheVariants.{SheetPlacement}
 use Rattle.sheet_rules.specs.declared.record.Placement.{Placement}
@@ -13,9 +13,9 @@ placement_of kind target seconds =
     (cond (eqb kind 2) End
     (cond (eqb kind 3) (Labeled target) (Offset seconds))))
 
--- the same, where there is such a kind
-abbrev pub placement_read : ℕ → ℕ → ℕ → Result Placement Refusal
-placement_read kind target seconds = cond (leb kind 4) (Ok (placement_of kind target seconds)) (Err SheetPlacement)
+-- the placement that a record says, or refusal 10: "kind above 4"
+abbrev pub placement_in : ℕ → ℕ → ℕ → Result Placement Refusal
+placement_in kind target seconds = cond (ltb 4 kind) (Err SheetPlacement) (Ok (placement_of kind target seconds))
 
 -- "kind (order above), target", and the seconds bits, 0 where the kind has none
 abbrev pub kind_of : Placement → ℕ

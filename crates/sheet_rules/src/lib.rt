@@ -43,8 +43,8 @@ impl Header {
         ensures number { number_in result ≡ cond (loop_good self.mode self.number) accepted sheet_loop }
         ensures value { IfOk result (λ looping. looping ≡ loop_of self.mode self.number) }
     {
-        let looping = Loop::from_parts(self.mode, self.number);
-        if looping.mode() != self.mode || looping.number() != self.number {
+        let looping = Loop::try_from((self.mode, self.number))?;
+        if looping.number() != self.number {
             return Err(Refusal::SheetLoop);
         }
         Ok(looping)

@@ -2,7 +2,7 @@
 ghost use Rattle.std.specs.Prelude.{◌≡◌, IfOk};
 ghost use Rattle.refusal.specs.Refusal.{number_in};
 ghost use Rattle.sheet_rules.specs.Rules.{record_refusal};
-ghost use Rattle.sheet_rules.specs.Placements.{placement_of, placement_read, kind_of, target_of, seconds_of, target_good};
+ghost use Rattle.sheet_rules.specs.Placements.{placement_of, placement_in, kind_of, target_of, seconds_of, target_good};
 
 use refusal::Refusal;
 
@@ -53,19 +53,20 @@ pub struct Record {
     pub seconds: u32,
 }
 
-// The placement that the kind, the target and the seconds bits say. There is no kind above 4.
+// The placement that the kind, the target and the seconds bits say; refusal 10 for a kind above 4.
 impl TryFrom<Record> for Placement {
     type Error = Refusal;
 
-    ghost try_from_gives = { λ record r. r ≡ placement_read record.kind record.target record.seconds };
+    ghost try_from_gives = { λ numbers r. r ≡ placement_in numbers.kind numbers.target numbers.seconds };
 
-    fn try_from(record: Record) -> Result<Placement, Refusal> {
-        match record.kind {
-            0 => Ok(Placement::Absolute(record.seconds)),
+    #[tactic(auto, unfolding(crate::specs::Placements::placement_of))]
+    fn try_from(numbers: Record) -> Result<Placement, Refusal> {
+        match numbers.kind {
+            0 => Ok(Placement::Absolute(numbers.seconds)),
             1 => Ok(Placement::Start),
             2 => Ok(Placement::End),
-            3 => Ok(Placement::Label(usize::from(record.target))),
-            4 => Ok(Placement::Offset(record.seconds)),
+            3 => Ok(Placement::Label(usize::from(numbers.target))),
+            4 => Ok(Placement::Offset(numbers.seconds)),
             _ => Err(Refusal::SheetPlacement),
         }
     }

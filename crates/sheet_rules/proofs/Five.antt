@@ -5,18 +5,17 @@ use mathlib.Core.Bool.{true}
 use native.Mathlib.Omega.{arith}
 use borrow.Author.Tests.{eqb-true, leb-true}
 use lib.Dec.{leb}
+use Rattle.std.proofs.lemmas.Bool.{and_parts}
 use Rattle.tween.specs.declared.loop_mode.Loop.{Loop}
 use Rattle.tween.specs.declared.loop_mode.Loop.TheVariants.{Once, Times, Forever, PingPong, PingPongTimes}
 use Rattle.sheet_rules.specs.declared.record.Placement.{Placement}
 use Rattle.sheet_rules.specs.declared.record.Placement.TheVariants.{Absolute, Start, End, Label as Labeled, Offset}
 use Rattle.sheet_rules.specs.Rules.{loop_good, placement_good, zeros_good}
 use Rattle.tween.specs.LoopMode.{loop_of, mode_of, number_of}
-use Rattle.sheet_format.specs.Descriptions.{placement_of}
-use Rattle.sheet_rules.specs.Placements.{kind_of, target_of, seconds_of, target_good}
-use Rattle.steps.proofs.Tests.{and-true}
+use Rattle.sheet_rules.specs.Placements.{placement_of, kind_of, target_of, seconds_of, target_good}
 
 -- what holds of 0 to 4 holds up to 4
-five : (P : ℕ → Type 0) → P 0 → P 1 → P 2 → P 3 → P 4 → (k : ℕ) → k ≤ 4 → P k
+pub five : (P : ℕ → Type 0) → P 0 → P 1 → P 2 → P 3 → P 4 → (k : ℕ) → k ≤ 4 → P k
 five P a b c d e zero h = a
 five P a b c d e (suc zero) h = b
 five P a b c d e (suc (suc zero)) h = c
@@ -40,7 +39,7 @@ loop_back mode number g =
     (λ e. record { mode-same = refl; number_same = sym (eqb-true number 0 e) })
     (λ e. record { mode-same = refl; number_same = sym (eqb-true number 0 e) })
     (λ e. record { mode-same = refl; number_same = refl })
-    mode (leb-true mode 4 (and-true (leb mode 4) _ g).0) g
+    mode (leb-true mode 4 (and_parts (leb mode 4) _ g).0) g
 
 -- the mode that was written is read
 pub loop_same : (looping : Loop) → loop_of (mode_of looping) (number_of looping) ≡ looping
@@ -76,7 +75,7 @@ placement_back n kind target seconds p z =
     (λ e f. record { kind-same = refl; target-same = sym (eqb-true target 0 e); seconds-same = sym (eqb-true seconds 0 f); good = refl })
     (λ e f. record { kind-same = refl; target-same = refl; seconds-same = sym (eqb-true seconds 0 f); good = e })
     (λ e f. record { kind-same = refl; target-same = sym (eqb-true target 0 e); seconds-same = refl; good = refl })
-    kind (leb-true kind 4 (and-true (leb kind 4) _ p).0) p z
+    kind (leb-true kind 4 (and_parts (leb kind 4) _ p).0) p z
 
 -- the placement that was written is read
 pub placement_same : (at : Placement) → placement_of (kind_of at) (target_of at) (seconds_of at) ≡ at

@@ -1,0 +1,3 @@
+-- Laws of what the numbers of a sheet say.
+pub mod Five
+pub mod Said
