@@ -1,5 +1,5 @@
 -- What the functions of this crate answer. Definitions only.
-use Rattle.std.specs.Prelude.{ℕ, zero, suc, ◌+◌, ◌-◌, ◌≤◌, ◌≡◌, Bool, true, false, cond, not, ◌||◌, ◌&&◌, List, [], ◌∷◌, ◌++◌, eqb, ltb, leb, length, take, drop, Option, Some, None, Result}
+use Rattle.std.specs.Prelude.{ℕ, zero, suc, ◌+◌, ◌-◌, ◌≤◌, ◌≡◌, Bool, cond, ◌||◌, ◌&&◌, List, [], ◌∷◌, ◌++◌, eqb, ltb, leb, length, take, drop, Option, Some, None, Result, result_ok}
 use Rattle.refusal.specs.declared.Refusal.{Refusal}
 use Rattle.refusal.specs.Refusal.{accepted, bad_call, number_if, number_in}
 use Rattle.digits.specs.Digits.{put_at}
@@ -54,35 +54,26 @@ MadeAt head spans marks rest r list rows =
 -- ---- `open`
 
 -- `sheet_len`: how many bytes are wanted after the first two
-unfoldable pub sheet_room : List ℕ → ℕ
-sheet_room input = cond (ltb (length input) length_size || ltb max_sheet (word length_size input)) 0 (word length_size input)
+unfoldable pub sheet_room : List ℕ → Option ℕ
+sheet_room input = cond (ltb (length input) length_size || ltb max_sheet (word length_size input)) None (Some (word length_size input))
 
--- the log of a sheet that was refused, and of one that was accepted
-abbrev pub closed_log : Log
-closed_log = record { number = 0; logging = false; track = empty_track }
-
+-- the log of a sheet that was accepted, before the first call
 abbrev pub new_log : Track → Log
-new_log k = record { number = 0; logging = true; track = k }
+new_log k = record { number = 0; track = k }
 
 -- the line of the input's sheet
 unfoldable pub open_line : List ℕ → Line
 open_line input = cond (eqb (sheet_number input) accepted) (sheet_line (track_in input)) (Refused (sheet_number input))
 
--- the log that `open` hands out
-unfoldable pub open_log : List ℕ → Log
-open_log input = cond (eqb (sheet_number input) accepted) (new_log (track_in input)) closed_log
+-- the log that `open` hands out: none of a sheet that is refused
+unfoldable pub open_log : List ℕ → Option Log
+open_log input = cond (eqb (sheet_number input) accepted) (Some (new_log (track_in input))) None
 
--- the answer of `open`, with the number by which the sheet is refused
-pub record NumberedOpened : Type 0 where
-  pub len : ℕ
-  pub refusal : ℕ
-  pub log : Log
-
-abbrev pub numbered_opened : Opened → NumberedOpened
-numbered_opened r = record { len = r.len; refusal = number_if r.refusal; log = r.log }
-
-abbrev pub opened_by : List ℕ → NumberedOpened
-opened_by input = record { len = length (shown (open_line input)); refusal = sheet_number input; log = open_log input }
+-- the answer of `open`
+pub record Opens (input : List ℕ) (r : Opened) : Type 0 where
+  pub len : r.len ≡ length (shown (open_line input))
+  pub refusal : number_in r.log ≡ sheet_number input
+  pub log : result_ok r.log ≡ open_log input
 
 -- ---- `next`
 
@@ -94,38 +85,35 @@ last_number = 18446744073709551615
 unfoldable pub counted : ℕ → ℕ
 counted n = cond (ltb n last_number) (n + 1) n
 
--- no line is due: the sheet was refused, or nothing is left of the script
-abbrev pub is_over : Log → List ℕ → Bool
-is_over log rest = not log.logging || eqb (length rest) 0
-
--- the lines of what is at the front of the script: one, or none
-unfoldable pub next_lines : Log → List ℕ → List Line
-next_lines log rest = cond (is_over log rest) [] (call_line (counted log.number) (outcome_at log.track rest) ∷ [])
+-- the lines of what is at the front of the script: none where the sheet was refused or nothing is left, else one
+unfoldable pub next_lines : Option Log → List ℕ → List Line
+next_lines None rest = []
+next_lines (Some log) rest = cond (eqb (length rest) 0) [] (call_line (counted log.number) (outcome_at log.track rest) ∷ [])
 
 -- the log that `next` hands out
-unfoldable pub next_log : Log → List ℕ → Log
-next_log log rest =
-    cond (is_over log rest) log (record { number = counted log.number; logging = true; track = (outcome_at log.track rest).track })
+unfoldable pub next_log : Option Log → List ℕ → Option Log
+next_log None rest = None
+next_log (Some log) rest = Some (cond (eqb (length rest) 0) log (record { number = counted log.number; track = (outcome_at log.track rest).track }))
 
 -- the bytes of those lines
-abbrev pub next_bytes : Log → List ℕ → List ℕ
+abbrev pub next_bytes : Option Log → List ℕ → List ℕ
 next_bytes log rest = shown_all (next_lines log rest)
 
 -- a log whose track plays in the lent columns
-abbrev pub lent_log : Turn → Bool → Spans → LentMut Bool → Log
-lent_log turn logging spans marks = record { number = turn.number; logging = logging; track = lent_track turn.head spans (seen marks) }
+abbrev pub lent_log : Turn → Spans → LentMut Bool → Log
+lent_log turn spans marks = record { number = turn.number; track = lent_track turn.head spans (seen marks) }
 
 -- and the log that is left in them
-abbrev pub left_log : Turn → Bool → Spans → LentMut Bool → Log
-left_log turn logging spans marks =
-    record { number = turn.number; logging = logging; track = track_of turn.head spans.starts.now spans.durations.now marks.exit.now }
+abbrev pub left_log : Turn → Spans → LentMut Bool → Log
+left_log turn spans marks =
+    record { number = turn.number; track = track_of turn.head spans.starts.now spans.durations.now marks.exit.now }
 
 -- `next`: its answer, the log that is left, and the lent array before and after
 pub record LogsTo (before : Log) (rest : List ℕ) (r : Logged) (left : Log) (at : ℕ) (old new : List ℕ) : Type 0 where
-  pub len : r.len ≡ length (next_bytes before rest)
+  pub len : r.len ≡ length (next_bytes (Some before) rest)
   pub few : r.len ≤ line_size
-  pub log : left ≡ next_log before rest
-  pub text : new ≡ put_at (next_bytes before rest) at old
+  pub log : Some left ≡ next_log (Some before) rest
+  pub text : new ≡ put_at (next_bytes (Some before) rest) at old
 
 -- what is left in the lent array: the text at its front
 abbrev pub lined : List ℕ → List ℕ → List ℕ
@@ -145,18 +133,18 @@ is_next ended bytes room = leb (least_bytes ended) (length bytes) && leb line_si
 pub record Calls : Type 0 where
   pub used : ℕ
   pub text : List ℕ
-  pub log : Log
+  pub log : Option Log
 
 -- no calls
-abbrev pub no_calls : Log → Calls
+abbrev pub no_calls : Option Log → Calls
 no_calls log = record { used = 0; text = []; log = log }
 
 -- so many bytes used and this text, and then these calls
 abbrev pub call_then : ℕ → List ℕ → Calls → Calls
 call_then used text c = record { used = used + c.used; text = text ++ c.text; log = c.log }
 
--- `next`, call by call, as long as one is made; a log whose sheet was refused uses the bytes up. The first number is fuel
-unfoldable pub batch_from : ℕ → Bool → Log → List ℕ → ℕ → Calls
+-- `next`, call by call, as long as one is made; where the sheet was refused they use the bytes up. The first number is fuel
+unfoldable pub batch_from : ℕ → Bool → Option Log → List ℕ → ℕ → Calls
 batch_from zero ended log bytes room = no_calls log
 batch_from (suc k) ended log bytes room =
     cond (is_next ended bytes room)
@@ -164,7 +152,7 @@ batch_from (suc k) ended log bytes room =
     (no_calls log)
 
 -- the calls that the bytes hold and whose lines have room
-abbrev pub batch_of : Bool → Log → List ℕ → ℕ → Calls
+abbrev pub batch_of : Bool → Option Log → List ℕ → ℕ → Calls
 batch_of ended log bytes room = batch_from (length bytes) ended log bytes room
 
 -- the answer of `batch`
@@ -175,5 +163,5 @@ batched_by c = record { used = c.used; len = length c.text; log = c.log }
 pub record RunsTo (c : Calls) (r : Ran) (left : Log) (old new : List ℕ) : Type 0 where
   pub used : r.used ≡ c.used
   pub len : r.len ≡ length c.text
-  pub log : left ≡ c.log
+  pub log : Some left ≡ c.log
   pub text : new ≡ lined c.text old

@@ -4,30 +4,28 @@
 mod fields;
 mod lines;
 
-ghost use Rattle.std.specs.Prelude.{◌≡◌, ◌+◌, ◌<◌, ◌≤◌, length, take, drop};
-ghost use Rattle.refusal.specs.Refusal.{number};
+ghost use Rattle.std.specs.Prelude.{◌≡◌, ◌+◌, ◌<◌, ◌≤◌, length, Some, None, IfNone, IfSome, result_ok};
+ghost use Rattle.refusal.specs.Refusal.{number_in};
 ghost use Rattle.track.specs.Answers.{SameSlices};
-ghost use Rattle.call_log.specs.Lines.{Refused, shown, line_size};
-ghost use Rattle.call_log.specs.Logs.{is_cut, call_size};
-ghost use Rattle.call_log.specs.Machine.{Lends, Roomy, CallAt, MadeAt, lent_log, left_log, LogsTo, RunsTo, sheet_room, closed_log, open_line, numbered_opened, opened_by, lined, least_bytes, batch_of, batched_by};
+ghost use Rattle.call_log.specs.Lines.{shown, line_size};
+ghost use Rattle.call_log.specs.Logs.{is_cut, sheet_in, sheet_number};
+ghost use Rattle.call_log.specs.Machine.{Lends, Roomy, CallAt, MadeAt, lent_log, left_log, LogsTo, RunsTo, sheet_room, open_line, open_log, Opens, lined, least_bytes, batch_of, batched_by};
 
-use completions::Spans;
+use completions::{MOST_ENTRIES, Spans};
 pub use fields::LINE;
 use refusal::Refusal;
 use script::Made;
+pub use sheet_rules::MAX_SHEET;
 use steps::MAX_ENTRIES;
 use track::rows::Rows;
 use track::track::{Columns, Playhead, Track};
 use words::{u16_at, u32_at};
 
-// The longest sheet: 64 entries, with labels of 24 bytes.
-pub const MAX_SHEET: usize = 2_572;
-
 // How many bytes a call has.
 pub const CALL: usize = 5;
 
 // How many completed entries an update can list.
-pub const LIST: usize = 256;
+pub const LIST: usize = MOST_ENTRIES;
 
 // A call of a script: its byte and its f32.
 #[derive(Clone, Copy)]
@@ -36,22 +34,18 @@ struct Call {
     x: f32,
 }
 
-// A log: how many lines of calls it has, whether its sheet was accepted, and what plays, as the calls left it. Not an Option of a log: one
-// whose sheet was refused still uses bytes up.
+// A log: how many lines of calls it has, and what plays, as the calls left it.
 #[derive(Clone, Copy)]
 pub struct Log {
     pub number: usize,
-    pub logging: bool,
     pub track: Track,
 }
 
-// The answer of open: how long the line is, why the sheet is refused, if it is, and the log. Not a Result: a refused sheet has its
-// line and its log, too.
+// The answer of open: how long the line is, and the log, or why the sheet is refused, which has its line, too.
 #[derive(Clone, Copy)]
 pub struct Opened {
     pub len: usize,
-    pub refusal: Option<Refusal>,
-    pub log: Log,
+    pub log: Result<Log, Refusal>,
 }
 
 // The answer of batch: how many bytes it used, how long the lines are, and the log.
@@ -59,7 +53,7 @@ pub struct Opened {
 pub struct Batched {
     pub used: usize,
     pub len: usize,
-    pub log: Log,
+    pub log: Option<Log>,
 }
 
 // What changes from line to line: the number of the last one, and the playhead.
@@ -84,80 +78,70 @@ struct Logged {
     turn: Turn,
 }
 
-// How many bytes the sheet has after the two that say so. None are wanted of a sheet that is too long.
+// How many bytes the sheet has after the two that say so. None where these are not there, or the sheet is too long.
 #[tactic(auto, unfolding(crate::specs::Machine::sheet_room))]
-pub fn sheet_len(input: &[u8]) -> usize
+pub fn sheet_len(input: &[u8]) -> Option<usize>
     ensures { result ≡ sheet_room input.now }
 {
     let len = usize::from(u16_at(input, 0));
     if input.len() < 2 || len > MAX_SHEET {
-        return 0;
+        return None;
     }
-    len
-}
-
-// Whether the input ends before the sheet does, or the sheet is too long.
-#[tactic(auto, unfolding(crate::specs::Logs::is_cut))]
-fn is_cut(input: &[u8]) -> bool
-    ensures { result ≡ is_cut input.now }
-{
-    let len = usize::from(u16_at(input, 0));
-    input.len() < 2 || len > MAX_SHEET || input.len() < 2 + len
+    Some(len)
 }
 
 // Opens a log by the input's first bytes: its sheet, and maybe more. The line is the sheet's.
 pub fn open(input: &[u8], line: &mut [u8; LINE]) -> Opened
-    ensures value { numbered_opened result ≡ opened_by input.now }
+    ensures value { Opens input.now result }
     ensures line_after { line.new ≡ lined (shown (open_line input.now)) line.old }
 {
-    if is_cut(input) {
-        return refuse(Refusal::SheetLength, line);
-    }
-    let end = sheet_len(input) + 2;
-    let reading = sheet::read(&input[2..end]);
-    if let Some(refusal) = reading.refusal {
-        return refuse(refusal, line);
-    }
-    let track = reading.timeline.track;
-    let len = lines::accepted(line, track);
-    let log = Log {
-        number: 0,
-        logging: true,
-        track,
+    let log = read(input);
+    let len = match log {
+        Ok(log) => lines::accepted(line, log.track),
+        Err(refusal) => lines::refused(line, refusal),
     };
-    Opened {
-        len,
-        refusal: None,
-        log,
+    Opened { len, log }
+}
+
+// The log of the input's sheet, before its first call.
+fn read(input: &[u8]) -> Result<Log, Refusal>
+    ensures number { number_in result ≡ sheet_number input.now }
+    ensures log { result_ok result ≡ open_log input.now }
+{
+    let sheet = sheet_in(input).ok_or(Refusal::SheetLength)?;
+    let reading = sheet::read(sheet);
+    match reading.refusal {
+        Some(refusal) => Err(refusal),
+        None => Ok(Log {
+            number: 0,
+            track: reading.timeline.track,
+        }),
     }
 }
 
-// The log of a sheet that is refused: its line, and nothing more.
-#[tactic(auto, using(crate::proofs::Writing::wrote_all))]
-fn refuse(refusal: Refusal, line: &mut [u8; LINE]) -> Opened
-    ensures value { numbered_opened result ≡ record { len = length (shown (Refused (number refusal))); refusal = number refusal; log = closed_log } }
-    ensures line_after { line.new ≡ lined (shown (Refused (number refusal))) line.old }
+// The sheet, where it is not too long and the input has all of it.
+fn sheet_in(input: &[u8]) -> Option<&[u8]>
+    ensures none { IfNone result (is_cut input.now ≡ true) }
+    ensures some { IfSome result (λ sheet. (is_cut input.now ≡ false) × (sheet.now ≡ sheet_in input.now)) }
 {
-    let len = lines::refused(line, refusal);
-    let log = Log {
-        number: 0,
-        logging: false,
-        track: Track::new(),
-    };
-    Opened {
-        len,
-        refusal: Some(refusal),
-        log,
-    }
+    let len = sheet_len(input)?;
+    input.get(2..2 + len)
 }
 
 // Makes the calls that the bytes hold, one after the other, as long as room for a line is left, and writes their lines to the front.
-// Where the input ends behind the bytes, 1 to 4 that are left over are no call and have a line, too. A log whose sheet was refused
-// uses the bytes up. What plays is laid out in columns once, and gathered after the last call.
-pub fn batch(log: Log, bytes: &[u8], ended: bool, out: &mut [u8]) -> Batched
+// Where the input ends behind the bytes, 1 to 4 that are left over are no call and have a line, too. No log is that of a sheet that
+// was refused: it uses the bytes up. What plays is laid out in columns once, and gathered after the last call.
+pub fn batch(log: Option<Log>, bytes: &[u8], ended: bool, out: &mut [u8]) -> Batched
     ensures value { result ≡ batched_by (batch_of ended log bytes.now (length out.old)) }
     ensures out_after { out.new ≡ lined (batch_of ended log bytes.now (length out.old)).text out.old }
 {
+    let Some(log) = log else {
+        return Batched {
+            used: used_up(bytes, ended, out.len()),
+            len: 0,
+            log: None,
+        };
+    };
     let Columns {
         head,
         starts,
@@ -172,35 +156,46 @@ pub fn batch(log: Log, bytes: &[u8], ended: bool, out: &mut [u8]) -> Batched
         number: log.number,
         head,
     };
-    let ran = run(turn, log.logging, spans, &mut marks, bytes, ended, out);
+    let ran = run(turn, spans, &mut marks, bytes, ended, out);
     let gathered = log.track.gather(ran.turn.head, spans, &marks);
     let track = Track {
         count: log.track.count,
         ..gathered
     };
-    let log = Log {
-        number: ran.turn.number,
-        track,
-        ..log
-    };
     Batched {
         used: ran.used,
         len: ran.len,
-        log,
+        log: Some(Log {
+            number: ran.turn.number,
+            track,
+        }),
+    }
+}
+
+// How many bytes are used up where there is no log: all calls, if a line has room.
+fn used_up(bytes: &[u8], ended: bool, room: usize) -> usize
+    ensures { result ≡ (batch_of ended None bytes.now room).used }
+{
+    if room < LINE {
+        return 0;
+    }
+    if ended {
+        bytes.len()
+    } else {
+        bytes.len() - bytes.len() % CALL
     }
 }
 
 // The calls of a batch, in place.
 fn run(
     mut turn: Turn,
-    logging: bool,
     spans: Spans<'_>,
     marks: &mut [bool],
     bytes: &[u8],
     ended: bool,
     out: &mut [u8],
 ) -> Ran
-    ensures { RunsTo (batch_of ended (lent_log turn logging spans.entry marks) bytes.now (length out.old)) result (left_log result.turn logging spans.entry marks) out.old out.new }
+    ensures { RunsTo (batch_of ended (Some (lent_log turn spans.entry marks)) bytes.now (length out.old)) result (left_log result.turn spans.entry marks) out.old out.new }
 {
     let replies = [1u8; MAX_ENTRIES];
     let mut list = [0u8; LIST];
@@ -215,23 +210,17 @@ fn run(
     let least = least_bytes(ended);
     let mut used = 0;
     let mut len = 0;
-    // By what is used and written so far: the last call may be cut, and how long a line is shows when it is written.
-    while least <= bytes.len() - used && LINE <= out.len() - len {
+    for call in bytes.chunks(CALL) {
+        // The last one may be cut.
+        if call.len() < least || out.len() - len < LINE {
+            break;
+        }
         let logged = next(
-            turn,
-            logging,
-            spans,
-            marks,
-            &replies,
-            &mut list,
-            &mut rows,
-            &bytes[used..],
-            out,
-            len,
+            turn, spans, marks, &replies, &mut list, &mut rows, call, out, len,
         );
         turn = logged.turn;
         len += logged.len;
-        used = behind(used, bytes);
+        used += call.len();
     }
     Ran { turn, used, len }
 }
@@ -243,19 +232,10 @@ fn least_bytes(ended: bool) -> usize
     if ended { 1 } else { CALL }
 }
 
-// The offset behind the call at an offset, or the end of the bytes.
-fn behind(at: usize, bytes: &[u8]) -> usize
-    requires { at ≤ length bytes.now }
-    ensures { result ≡ at + length (take call_size (drop at bytes.now)) }
-{
-    at + CALL.min(bytes.len() - at)
-}
-
 // Makes the call at the front of what is left of the script, and writes its line from an offset on. Fewer bytes than a call has are no
-// call, and none have no line; nor has a log whose sheet was refused.
+// call.
 fn next(
     turn: Turn,
-    logging: bool,
     spans: Spans<'_>,
     marks: &mut [bool],
     replies: &[u8],
@@ -265,14 +245,10 @@ fn next(
     out: &mut [u8],
     at: usize,
 ) -> Logged
-    requires { Lends replies.now list.old rows.old × (at + line_size ≤ length out.old) }
-    ensures logged { LogsTo (lent_log turn logging spans.entry marks) rest.now result (left_log result.turn logging spans.entry marks) at out.old out.new }
+    requires { Lends replies.now list.old rows.old × (0 < length rest.now) × (at + line_size ≤ length out.old) }
+    ensures logged { LogsTo (lent_log turn spans.entry marks) rest.now result (left_log result.turn spans.entry marks) at out.old out.new }
     ensures rows_after { SameSlices rows.old rows.new × Roomy rows.new }
 {
-    let none = rest.len() == 0;
-    if !logging || none {
-        return Logged { len: 0, turn };
-    }
     let head = turn.head;
     let made = make_at(head, rest, spans, marks, replies, list, rows);
     let refusal = refusal::number_in(&made);

@@ -7,14 +7,15 @@ use native.Mathlib.Omega.{arith}
 use borrow.Author.Tests.{leb-true}
 use lib.Dec.{leb}
 use lib.ListN.{length}
-use Rattle.digits.specs.Digits.{Put, written_count}
+use Rattle.std.specs.Prelude.{Some, None, unwrap_or}
+use Rattle.digits.specs.Digits.{written_count}
 
 -- what is chosen where it has room ends within the room
-chosen : (b : Bool) (at w len : ℕ) → leb (at + w) len ≡ b → at ≤ len → at + cond b w 0 ≤ len
+chosen : (b : Bool) (at w len : ℕ) → leb (at + w) len ≡ b → at ≤ len → unwrap_or (cond b (Some w) None) 0 + at ≤ len
 chosen true at w len h a = omega (arith, leb-true (at + w) len h)
 chosen false at w len h a = omega (arith, a)
 
--- a text that was put into a sink's buffer ends within it
-pub ends_within : {text : List ℕ} {at : ℕ} {old new : List ℕ} {count : ℕ} → Put text at old new count → 65536 ≡ length old → at + 32 ≤ 65536 → at + count ≤ 65536
+-- what is written of a text ends within the slice
+pub ends_within : (text : List ℕ) (at : ℕ) (old : List ℕ) → at ≤ length old → unwrap_or (written_count text at old) 0 + at ≤ length old
 unfolding written_count
-ends_within {text} {at} {old} put len room = rw (put.counted, len) (chosen _ at (length text) (length old) refl (omega arith))
+ends_within text at old within = chosen _ at (length text) (length old) refl within

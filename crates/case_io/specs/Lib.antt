@@ -1,1 +1,1 @@
-pub mod Part
+pub mod Bits

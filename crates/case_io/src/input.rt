@@ -1,41 +1,16 @@
 // Standard input: a byte, 0 for text and 1 for digests, and then records, each a u32 n, little-endian, and n bytes.
-ghost use Rattle.std.specs.Prelude.{◌≡◌, ◌≤◌, length, IfSome};
-ghost use Rattle.case_io.specs.Part.{any, whole};
+ghost use Rattle.std.specs.Prelude.{◌≤◌, length, IfSome, IfOk, IfErr};
 
 use crate::text::{Form, Sink};
 use std::io::Stdin;
 use streams::read_full;
 
-// What was read: all of it, or what there is of it where the input ends early.
+// What there is of a record that the input does not have whole.
 #[derive(Clone, Copy)]
-pub enum Part<T> {
-    Whole(T),
-    Cut(T),
-}
-
-impl<T: Copy> Part<T> {
-    // What was read, where all of it is there.
-    pub fn whole(self) -> Option<T>
-        ensures { result ≡ whole self }
-    {
-        match self {
-            Part::Whole(it) => Some(it),
-            Part::Cut(_) => None,
-        }
-    }
-
-    // What was read, be it cut.
-    pub fn any(self) -> T
-        ensures { result ≡ any self }
-    {
-        match self {
-            Part::Whole(it) | Part::Cut(it) => it,
-        }
-    }
-}
+pub struct Cut<'a>(pub &'a [u8]);
 
 // Answers each record by a case of this name, to the end of the input, or to a record that is cut.
-pub fn each_record<F: FnMut(&mut Sink, Part<&[u8]>)>(
+pub fn each_record<F: FnMut(&mut Sink, Result<&[u8], Cut<'_>>)>(
     rt: &HostRuntime,
     name: &[u8],
     room: &mut [u8],
@@ -56,7 +31,7 @@ pub fn each_record<F: FnMut(&mut Sink, Part<&[u8]>)>(
         sink.begin(name, number);
         answer(&mut sink, record);
         sink.end();
-        if record.whole().is_none() {
+        if record.is_err() {
             return;
         }
     }
@@ -73,31 +48,32 @@ pub fn read_form(stdin: &mut Stdin) -> Option<Form> {
     }
 }
 
-// Reads the next u32: none where the input ends before it.
-pub fn read_word(stdin: &mut Stdin) -> Option<Part<u32>> {
+// Reads the next u32: none where the input does not have all of it.
+pub fn read_word(stdin: &mut Stdin) -> Option<u32> {
     let mut bytes = [0; 4];
-    let count = read_full(stdin, &mut bytes).count;
-    let n = u32::from_le_bytes(bytes);
-    match count {
-        0 => None,
-        4 => Some(Part::Whole(n)),
-        _ => Some(Part::Cut(n)),
-    }
+    let whole = read_full(stdin, &mut bytes).count == 4;
+    whole.then(|| u32::from_le_bytes(bytes))
 }
 
 // Reads the next record into the front of a slice: none where the input ends before it. None of its bytes is there where its length is
 // cut, or above the slice's.
-pub fn read_record<'a>(stdin: &mut Stdin, room: &'a mut [u8]) -> Option<Part<&'a [u8]>>
-    ensures { IfSome result (λ p. length (any p).now ≤ length room.old) }
+pub fn read_record<'a>(stdin: &mut Stdin, room: &'a mut [u8]) -> Option<Result<&'a [u8], Cut<'a>>>
+    ensures whole { IfSome result (λ r. IfOk r (λ bytes. length bytes.now ≤ length room.old)) }
+    ensures cut { IfSome result (λ r. IfErr r (λ part. length part.0.now ≤ length room.old)) }
 {
-    let n = match read_word(stdin)? {
-        Part::Whole(n) if n as usize <= room.len() => n as usize,
-        _ => return Some(Part::Cut(&room[..0])),
-    };
+    let mut bytes = [0; 4];
+    let read = read_full(stdin, &mut bytes).count;
+    if read == 0 {
+        return None;
+    }
+    let n = u32::from_le_bytes(bytes) as usize;
+    if read < 4 || n > room.len() {
+        return Some(Err(Cut(&room[..0])));
+    }
     let count = read_full(stdin, &mut room[..n]).count;
     Some(if count == n {
-        Part::Whole(&room[..n])
+        Ok(&room[..n])
     } else {
-        Part::Cut(&room[..count])
+        Err(Cut(&room[..count]))
     })
 }

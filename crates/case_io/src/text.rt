@@ -1,5 +1,7 @@
 // Standard output, by way of a buffer: the text of a case, or its digest, FNV-1a in eight hex digits.
-ghost use Rattle.std.specs.Prelude.{◌≡◌, ◌+◌, ◌≤◌};
+ghost use Rattle.std.specs.Prelude.{◌≡◌, ◌+◌, ◌≤◌, unwrap_or};
+ghost use Rattle.case_io.specs.declared.text.TheConstants.{BUFFER};
+ghost use Rattle.case_io.specs.Bits.{zeroless};
 
 use std::io::{Print, Stdout};
 
@@ -29,7 +31,7 @@ pub struct Sink {
     buffer: [u8; BUFFER],
     used: usize,
     digest: u32,
-    ghost used_fits: { used ≤ 65536 },
+    ghost used_fits: { used ≤ BUFFER },
 }
 
 impl Sink {
@@ -80,7 +82,7 @@ impl Sink {
 
     // Hands on what is in the buffer, where a field may not have room.
     fn room(&mut self)
-        ensures { self.new.used + 32 ≤ 65536 }
+        ensures { self.new.used + FIELD ≤ BUFFER }
     {
         if self.used > BUFFER - FIELD {
             self.flush();
@@ -100,21 +102,34 @@ impl Sink {
     }
 
     // A number in decimal.
+    #[tactic(auto, using(crate::proofs::Room::ends_within))]
     pub fn decimal(&mut self, n: usize) {
         self.room();
-        self.used += digits::put_decimal(n, &mut self.buffer, self.used);
+        let len = digits::put_decimal(n, &mut self.buffer, self.used);
+        self.put(len);
     }
 
     // Two hex digits.
+    #[tactic(auto, using(crate::proofs::Room::ends_within))]
     pub fn hex(&mut self, b: u8) {
         self.room();
-        self.used += digits::put_hex2(b, &mut self.buffer, self.used);
+        let len = digits::put_hex2(b, &mut self.buffer, self.used);
+        self.put(len);
     }
 
     // Eight hex digits.
+    #[tactic(auto, using(crate::proofs::Room::ends_within))]
     fn hex8(&mut self, n: u32) {
         self.room();
-        self.used += digits::put_hex8(n, &mut self.buffer, self.used);
+        let len = digits::put_hex8(n, &mut self.buffer, self.used);
+        self.put(len);
+    }
+
+    // A field of this length was put behind what is in the buffer.
+    fn put(&mut self, len: Option<usize>)
+        requires { self.old.used + unwrap_or len 0 ≤ BUFFER }
+    {
+        self.used += len.unwrap_or(0);
     }
 
     // The fields of a line, each after the byte that parts it from the one before.
@@ -131,13 +146,20 @@ impl Sink {
 
     // A float's bits, with those of +0.0 for either zero.
     pub fn float(&mut self, before: u8, x: f32) {
-        self.bits(before, if x == 0.0 { 0 } else { float32::to_bits(x) });
+        self.bits(before, zeroless_bits(x));
     }
 
     pub fn letter(&mut self, before: u8, b: u8) {
         self.byte(before);
         self.byte(b);
     }
+}
+
+// A float's bits, with 0 for either zero, where the Rust leaves the sign open.
+pub fn zeroless_bits(x: f32) -> u32
+    ensures { result ≡ zeroless x }
+{
+    if x == 0.0 { 0 } else { float32::to_bits(x) }
 }
 
 // The digest of what was taken before and of these bytes.

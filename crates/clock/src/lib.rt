@@ -2,26 +2,27 @@
 #![tactic(auto)]
 
 ghost use Rattle.std.specs.Prelude.{◌≡◌};
-ghost use Rattle.clock.specs.Clocks.{letter_of, is_playing, is_completed, with_state, scaled, cleared, started, play_state, played, play_rule, paused_state, paused, resumed_state, resumed, unended, seek_to, share_in, seek_state, sought, advances, advance_rule, next_elapsed, within, reach_of, fires, advanced_clock};
+ghost use Rattle.steps.specs.Times.{run_of};
+ghost use Rattle.clock.specs.Clocks.{letter_of, is_playing, is_completed, new_clock, with_state, scaled, cleared, started, play_state, played, play_rule, paused_state, paused, resumed_state, resumed, unended, seek_to, share_in, seek_state, sought, advances, advance_rule, next_elapsed, within, reach_of, fires, advanced_clock};
 
-use steps::Rule;
+use steps::{Rule, Run};
 use tween::Loop;
 
-// The playback state of a timeline.
-#[derive(Clone, Copy, PartialEq, Eq, Debug)]
+// The playback state of a timeline, by its letter in a log.
+#[derive(Clone, Copy, Debug, PartialEq, Eq)]
 pub enum TimelineState {
     // Ready, and not advancing.
-    Idle,
+    Idle = b'I' as isize,
     // Advancing.
-    Playing,
+    Playing = b'P' as isize,
     // Stopped on the way.
-    Paused,
+    Paused = b'H' as isize,
     // At the end of a finite run.
-    Completed,
+    Completed = b'C' as isize,
 }
 
 // Seconds of play so far, the state, the time scale, and whether the whole-run completion has fired since the last reset.
-#[derive(Clone, Copy)]
+#[derive(Clone, Copy, Debug)]
 pub struct Clock {
     pub elapsed: f32,
     pub state: TimelineState,
@@ -30,7 +31,7 @@ pub struct Clock {
 }
 
 // Where an update comes to: the elapsed time, and whether the run ends there.
-#[derive(Clone, Copy)]
+#[derive(Clone, Copy, Debug)]
 pub struct Reach {
     pub elapsed: f32,
     pub ended: bool,
@@ -41,12 +42,7 @@ impl TimelineState {
     pub fn letter(self) -> u8
         ensures { result ≡ letter_of self }
     {
-        match self {
-            TimelineState::Idle => b'I',
-            TimelineState::Playing => b'P',
-            TimelineState::Paused => b'H',
-            TimelineState::Completed => b'C',
-        }
+        self as u8
     }
 
     // Whether it is advancing.
@@ -133,46 +129,16 @@ pub fn seek_to(total: f32, secs: f32) -> f32
 
 // The second that a share stands for, in `seek`.
 #[tactic(auto, unfolding(crate::specs::Clocks::share_in))]
-pub fn share_in(base: f32, total: f32, share: f32) -> f32
-    ensures { result ≡ share_in base total share }
+pub fn share_in(run: Run, share: f32) -> f32
+    ensures { result ≡ share_in run.base (run_of run.mode run.base) share }
 {
-    let run = if float32::is_finite(total) {
+    let total = run.total();
+    let whole = if float32::is_finite(total) {
         total
     } else {
-        base
+        run.base
     };
-    run * float32::clamp(share, 0.0, 1.0)
-}
-
-// What `play` sends to every entry, from this clock.
-#[tactic(auto, unfolding(crate::specs::Clocks::play_rule))]
-pub fn play_rule(mode: Loop, clock: Clock, base: f32) -> Rule
-    ensures { result ≡ play_rule mode clock base }
-{
-    let t = steps::local_time(mode, base, clock.started().elapsed);
-    if clock.state.is_completed() {
-        if base == 0.0 {
-            Rule::Clear
-        } else {
-            Rule::Restart(t)
-        }
-    } else if base == 0.0 {
-        Rule::Keep
-    } else {
-        Rule::Sync(t)
-    }
-}
-
-// What an update outside Once sends to every entry: it comes to elapsed, if it goes on.
-#[tactic(auto, unfolding(crate::specs::Clocks::advance_rule))]
-pub fn advance_rule(advances: bool, mode: Loop, base: f32, elapsed: f32) -> Rule
-    ensures { result ≡ advance_rule advances mode base elapsed }
-{
-    if advances {
-        Rule::Sync(steps::local_time(mode, base, elapsed))
-    } else {
-        Rule::Keep
-    }
+    whole * float32::clamp(share, 0.0, 1.0)
 }
 
 // A run of this length bounds an update to next, and ends it.
@@ -187,16 +153,32 @@ pub fn reach_within(total: f32, next: f32) -> Reach
 
 // Where an update to next comes to, by the mode, in a base that is not 0.
 #[tactic(auto, unfolding(crate::specs::Clocks::reach_of))]
-pub fn reach_of(mode: Loop, base: f32, next: f32) -> Reach
-    ensures { result ≡ reach_of mode base next }
+pub fn reach_of(run: Run, next: f32) -> Reach
+    ensures { result ≡ reach_of run.mode run.base next }
 {
-    match mode {
-        Loop::Once => reach_within(base, next),
-        Loop::Times(n) | Loop::PingPongTimes(n) => reach_within(steps::times_run(base, n), next),
+    match run.mode {
+        Loop::Once => reach_within(run.base, next),
+        Loop::Times(n) | Loop::PingPongTimes(n) => {
+            reach_within(steps::times_run(run.base, n), next)
+        }
         Loop::Forever | Loop::PingPong => Reach {
             elapsed: next,
             ended: false,
         },
+    }
+}
+
+// `Timeline::new`
+impl Default for Clock {
+    fn default() -> Clock
+        ensures { result ≡ new_clock }
+    {
+        Clock {
+            elapsed: 0.0,
+            state: TimelineState::Idle,
+            time_scale: 1.0,
+            complete_fired: false,
+        }
     }
 }
 
@@ -265,6 +247,25 @@ impl Clock {
         self.started().with_state(play_state(base))
     }
 
+    // What `play` sends to every entry, from here.
+    #[tactic(auto, unfolding(crate::specs::Clocks::play_rule))]
+    pub fn play_rule(self, run: Run) -> Rule
+        ensures { result ≡ play_rule run.mode self run.base }
+    {
+        let t = run.local_time(self.started().elapsed);
+        if self.state.is_completed() {
+            if run.base == 0.0 {
+                Rule::Clear
+            } else {
+                Rule::Restart(t)
+            }
+        } else if run.base == 0.0 {
+            Rule::Keep
+        } else {
+            Rule::Sync(t)
+        }
+    }
+
     // `pause`
     #[tactic(auto, unfolding(crate::specs::Clocks::paused))]
     pub fn paused(self) -> Clock
@@ -301,6 +302,18 @@ impl Clock {
         self.state.is_playing() && base != 0.0
     }
 
+    // What an update outside Once sends to every entry: it comes to elapsed, if it goes on from here.
+    #[tactic(auto, unfolding(crate::specs::Clocks::advance_rule))]
+    pub fn advance_rule(self, run: Run, elapsed: f32) -> Rule
+        ensures { result ≡ advance_rule (advances self run.base) run.mode run.base elapsed }
+    {
+        if self.advances(run.base) {
+            Rule::Sync(run.local_time(elapsed))
+        } else {
+            Rule::Keep
+        }
+    }
+
     // The elapsed time to which `update` would go, in a run without end.
     #[tactic(auto, unfolding(crate::specs::Clocks::next_elapsed))]
     pub fn next_elapsed(self, dt: f32) -> f32
@@ -316,20 +329,23 @@ impl Clock {
         ended && !self.complete_fired
     }
 
-    // `update` that comes to elapsed. Where the run ends there it is Completed, and the whole-run completion has fired.
+    // `update` that comes to a reach. Where the run ends there it is Completed, and the whole-run completion has fired.
     #[tactic(auto, unfolding(crate::specs::Clocks::advanced_clock))]
-    pub fn advanced(self, elapsed: f32, ended: bool) -> Clock
-        ensures { result ≡ advanced_clock self elapsed ended }
+    pub fn advanced(self, to: Reach) -> Clock
+        ensures { result ≡ advanced_clock self to.elapsed to.ended }
     {
-        if ended {
+        if to.ended {
             Clock {
-                elapsed,
+                elapsed: to.elapsed,
                 state: TimelineState::Completed,
                 complete_fired: true,
                 ..self
             }
         } else {
-            Clock { elapsed, ..self }
+            Clock {
+                elapsed: to.elapsed,
+                ..self
+            }
         }
     }
 }

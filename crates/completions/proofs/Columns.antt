@@ -1,7 +1,7 @@
 -- The ends of entries in two columns, and what an iterator over both has left.
 use Prim.Native.Nat.{ℕ, zero, suc, min}
 use mathlib.Core.Path.{◌≡◌, refl, sym, ap, ◌∙◌}
-use mathlib.Core.List.{List, [], ◌∷◌}
+use mathlib.Core.List.{List, [], ◌∷◌, nil≢cons, head-eq_of_cons-eq, tail-eq_of_cons-eq}
 use mathlib.Core.Logic.{inl, inr}
 use native.Mathlib.Omega.{arith}
 use denote.Ref.{Bor}
@@ -10,6 +10,7 @@ use lib.Ieee.{Float, binary32, add}
 use Rattle.std.specs.declared.iter.Zip.{Zip}
 use Rattle.std.specs.declared.slice.Iter.{Iter}
 use Rattle.std.specs.Prelude.{Option, Some, None}
+use Rattle.std.specs.Iterator.{AlwaysYields}
 use Rattle.std.specs.Iterator.Adapters.{zip_first, zip_second}
 use Rattle.std.specs.Slice.Iter.{iter_rest}
 use Rattle.std.proofs.iter.Yields.{fronts}
@@ -40,6 +41,16 @@ module _ (s t : Zip (Iter Float) (Iter Float)) (r : Option (Bor Float × Bor Flo
 
   pub left_none : r ≡ None → zips fronts fronts s r t → left s ≡ []
   left_none e h = elim (either_empty_from_Zip s t r e h) [ inl a ↦ rw a | inr b ↦ rw b (no_ends (iter_rest (zip_first s))) ]
+
+-- every run of the iterator gives the ends
+pub gives_ends : (l : List Float) (s : Zip (Iter Float) (Iter Float)) → left s ≡ l → AlwaysYields (zips fronts fronts) (λ p. add binary32 p.0.now p.1.now) s l
+gives_ends [] s e = λ x j h. absurd (nil≢cons (sym e ∙ left_more s j (Some x) x refl h))
+gives_ends (y ∷ ys) s e = (
+  λ j h. absurd (nil≢cons (sym (left_none s j None refl h) ∙ e)),
+  λ x j h.
+      let k = sym (left_more s j (Some x) x refl h) ∙ e in
+      (head-eq_of_cons-eq k, gives_ends ys j (tail-eq_of_cons-eq k)),
+)
 
 -- ---- the first entries of both columns
 

@@ -35,18 +35,18 @@ refuted false h = refl
 le-nan : (x y : Float) → is_nan y ≡ true → le x y ≡ false
 le-nan x y h = refuted (le x y) (λ t. true≢false (sym h ∙ (le-no_nan x y t).1))
 
-nan_none : (w : Walk) → (is_nan w.prev || is_nan w.next) ≡ true → (start end : Float) → completes w start end ≡ false
+nan_none : (w : Walk) → (is_nan w.step.prev || is_nan w.step.next) ≡ true → (start end : Float) → completes w start end ≡ false
 unfolding completes
-nan_none w h start end = go (is_nan w.prev) refl h
+nan_none w h start end = go (is_nan w.step.prev) refl h
   where
-    go : (b : Bool) → is_nan w.prev ≡ b → (b || is_nan w.next) ≡ true → (lt w.prev (add binary32 start end) && le (add binary32 start end) w.next) ≡ false
-    go true p q = rw (lt-nan_left w.prev (add binary32 start end) p)
-    go false p q = rw (le-nan (add binary32 start end) w.next q) (and-false (lt w.prev (add binary32 start end)))
+    go : (b : Bool) → is_nan w.step.prev ≡ b → (b || is_nan w.step.next) ≡ true → (lt w.step.prev (add binary32 start end) && le (add binary32 start end) w.step.next) ≡ false
+    go true p q = rw (lt-nan_left w.step.prev (add binary32 start end) p)
+    go false p q = rw (le-nan (add binary32 start end) w.step.next q) (and-false (lt w.step.prev (add binary32 start end)))
 
 -- ---- the whole walk
 
 -- a walk has the step's own bounds
-nan_in_walk : (mode : Loop) (base prev next : Float) → (is_nan (walk_of mode base prev next).prev || is_nan (walk_of mode base prev next).next) ≡ (is_nan prev || is_nan next)
+nan_in_walk : (mode : Loop) (base prev next : Float) → (is_nan (walk_of mode base prev next).step.prev || is_nan (walk_of mode base prev next).step.next) ≡ (is_nan prev || is_nan next)
 nan_in_walk Once base prev next = refl
 nan_in_walk (Times n) base prev next = refl
 nan_in_walk Forever base prev next = refl

@@ -94,17 +94,17 @@ or-false : (a b : Bool) → (a || b) ≡ false → b ≡ false
 or-false true b h = absurd (true≢false h)
 or-false false b h = h
 
-no_break : (w : Walk) (c : ℕ) → stops_at w c ≡ false → lt w.next (cycle_start w c) ≡ false
+no_break : (w : Walk) (c : ℕ) → stops_at w c ≡ false → lt w.step.next (cycle_start w c) ≡ false
 unfolding stops_at breaks_at
 no_break w c h = or-false (reaches w.max_cycles c) _ (or-false (eqb c last_cycle) _ h)
 
-stops : (w : Walk) (c : ℕ) → lt w.next (cycle_start w c) ≡ true → stops_at w c ≡ true
+stops : (w : Walk) (c : ℕ) → lt w.step.next (cycle_start w c) ≡ true → stops_at w c ≡ true
 unfolding stops_at breaks_at
 stops w c h = rw (h, or-true (reaches w.max_cycles c)) (or-true (eqb c last_cycle))
 
 -- ---- the cycles of a walk whose base is one of the ends, and no longer than the period
 module _ (w : Walk) (ends : List Float) (base : Float) (fit-b : T (fits binary32 base)) (up-b : T (above base)) (has : Has base ends) (fit : T (fits binary32 w.period))
-    (b-le : le base w.period ≡ true) (goes : lt w.prev w.next ≡ true) where
+    (b-le : le base w.period ≡ true) (goes : lt w.step.prev w.step.next ≡ true) where
   up-p : T (above w.period)
   up-p = above_of_above base w.period up-b (T_true _ b-le)
 
@@ -122,31 +122,31 @@ module _ (w : Walk) (ends : List Float) (base : Float) (fit-b : T (fits binary32
   end-nonneg c h = add-nonneg binary32 (start c) base (start-nonneg c h) (above_nonneg base up-b)
 
   -- the base ends before the step
-  too-early : (c : ℕ) → 0 < c → c ≤ last_cycle → lt w.prev (add binary32 (start c) base) ≡ false → c ≤ first_cycle w + 774
+  too-early : (c : ℕ) → 0 < c → c ≤ last_cycle → lt w.step.prev (add binary32 (start c) base) ≡ false → c ≤ first_cycle w + 774
   too-early c h top k =
-      let l : le (add binary32 (start c) base) w.prev ≡ true =
-      le_of_not_lt w.prev (add binary32 (start c) base) (lt-no_nan w.prev w.next goes).0 (nonneg_no_nan _ (end-nonneg c h)) k in
-      let s : le (start c) w.prev ≡ true =
-      order.le_trans (start c) (add binary32 (start c) base) w.prev (add-ge binary32 (start c) base (mul-fits binary32 (from_u32 c) w.period) (start-nonneg c h) (above_nonneg base up-b)) l in
-      let f : T (finite w.prev) = lt-finite w.prev w.next (nonneg_of_ge (start c) w.prev (start-nonneg c h) s) goes in
-      starts.early w.period fit up-p w.prev c f top (le-finite (start c) w.prev (start-nonneg c h) (T_true _ s) f) s
+      let l : le (add binary32 (start c) base) w.step.prev ≡ true =
+      le_of_not_lt w.step.prev (add binary32 (start c) base) (lt-no_nan w.step.prev w.step.next goes).0 (nonneg_no_nan _ (end-nonneg c h)) k in
+      let s : le (start c) w.step.prev ≡ true =
+      order.le_trans (start c) (add binary32 (start c) base) w.step.prev (add-ge binary32 (start c) base (mul-fits binary32 (from_u32 c) w.period) (start-nonneg c h) (above_nonneg base up-b)) l in
+      let f : T (finite w.step.prev) = lt-finite w.step.prev w.step.next (nonneg_of_ge (start c) w.step.prev (start-nonneg c h) s) goes in
+      starts.early w.period fit up-p w.step.prev c f top (le-finite (start c) w.step.prev (start-nonneg c h) (T_true _ s) f) s
 
   -- or after it
-  too-late : (c : ℕ) → 2 ≤ c → c ≤ last_cycle → lt w.next (add binary32 (start c) base) ≡ true → StopsFrom w ends (c + 1033)
-  too-late c two top k c' far top' = go (lt w.next (start c')) refl
+  too-late : (c : ℕ) → 2 ≤ c → c ≤ last_cycle → lt w.step.next (add binary32 (start c) base) ≡ true → StopsFrom w ends (c + 1033)
+  too-late c two top k c' far top' = go (lt w.step.next (start c')) refl
     where
-      go : (b : Bool) → lt w.next (start c') ≡ b → stops_at w c' ≡ true
-      go true e = stops w c' (ap (lt w.next) (start_is c') ∙ e)
+      go : (b : Bool) → lt w.step.next (start c') ≡ b → stops_at w c' ≡ true
+      go true e = stops w c' (ap (lt w.step.next) (start_is c') ∙ e)
       go false e =
-          let l : le (start c') w.next ≡ true = le_of_not_lt w.next (start c') (lt-no_nan w.prev w.next goes).1 (nonneg_no_nan _ (start-nonneg c' (omega arith))) e in
-          let n : c' ≤ c + 1032 = starts.late w.period fit up-p base w.next c c' fit-b up-b b-le two top top' l k in
+          let l : le (start c') w.step.next ≡ true = le_of_not_lt w.step.next (start c') (lt-no_nan w.step.prev w.step.next goes).1 (nonneg_no_nan _ (start-nonneg c' (omega arith))) e in
+          let n : c' ≤ c + 1032 = starts.late w.period fit up-p base w.step.next c c' fit-b up-b b-le two top top' l k in
           let f : ⊥ = omega arith in
           absurd f
 
   pub lists : Lists w ends (first_cycle w + 775) 1033
-  lists c m top e = go (lt w.prev (add binary32 (start c) base)) (le (add binary32 (start c) base) w.next) refl refl
+  lists c m top e = go (lt w.step.prev (add binary32 (start c) base)) (le (add binary32 (start c) base) w.step.next) refl refl
     where
-      go : (x y : Bool) → lt w.prev (add binary32 (start c) base) ≡ x → le (add binary32 (start c) base) w.next ≡ y → (0 < length (in_cycle w (cycle_start w c) 0 ends)) ⊎ StopsFrom w ends (c + 1033)
+      go : (x y : Bool) → lt w.step.prev (add binary32 (start c) base) ≡ x → le (add binary32 (start c) base) w.step.next ≡ y → (0 < length (in_cycle w (cycle_start w c) 0 ends)) ⊎ StopsFrom w ends (c + 1033)
       go true true p q = inl (has_lists w (cycle_start w c) base 0 ends has (unfold completes in rw (start_is c, p) q))
-      go true false p q = inr (too-late c (omega arith) top (elim (lt-or_le w.next (add binary32 (start c) base) (lt-no_nan w.prev w.next goes).1 (nonneg_no_nan _ (end-nonneg c (omega arith)))) [ inl a ↦ a | inr b ↦ absurd (true≢false (sym b ∙ q)) ]))
+      go true false p q = inr (too-late c (omega arith) top (elim (lt-or_le w.step.next (add binary32 (start c) base) (lt-no_nan w.step.prev w.step.next goes).1 (nonneg_no_nan _ (end-nonneg c (omega arith)))) [ inl a ↦ a | inr b ↦ absurd (true≢false (sym b ∙ q)) ]))
       go false y p q = let l : c ≤ first_cycle w + 774 = too-early c (omega arith) top p in let f : ⊥ = omega arith in absurd f

@@ -43,7 +43,7 @@ lt_of_not_le x y p q h = elim (lt-or_le x y p q) [ inl l ↦ l | inr l ↦ absur
 
 -- a cycle number is one of a u32
 first_top : (w : Walk) → first_cycle w ≤ last_cycle
-first_top w = le_of_suc-le-suc (to_unsigned-lt 32 (max_f (div binary32 w.prev w.period) zero_f))
+first_top w = le_of_suc-le-suc (to_unsigned-lt 32 (max_f (div binary32 w.step.prev w.period) zero_f))
 
 -- ---- the walk of a mode
 module _ (base prev next : Float) (fit : T (fits binary32 base)) (up : T (above base)) where
@@ -61,7 +61,7 @@ module _ (base prev next : Float) (fit : T (fits binary32 base)) (up : T (above 
   period-ge p PingPong = le-double base fit up
   period-ge p (PingPongTimes n) = le-double base fit up
 
-walk_goes : (mode : Loop) (base prev next : Float) → lt prev next ≡ true → lt (walk_of mode base prev next).prev (walk_of mode base prev next).next ≡ true
+walk_goes : (mode : Loop) (base prev next : Float) → lt prev next ≡ true → lt (walk_of mode base prev next).step.prev (walk_of mode base prev next).step.next ≡ true
 walk_goes Once base prev next h = h
 walk_goes (Times n) base prev next h = h
 walk_goes Forever base prev next h = h

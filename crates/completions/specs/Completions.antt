@@ -18,7 +18,7 @@ cycle_start w cycle = mul binary32 (from_u32 cycle) w.period
 
 -- `prev < completion && completion <= next`, for an entry with this end in the cycle that starts at start
 unfoldable pub completes : Walk → Float → Float → Bool
-completes w start end = lt w.prev (add binary32 start end) && le (add binary32 start end) w.next
+completes w start end = lt w.step.prev (add binary32 start end) && le (add binary32 start end) w.step.next
 
 -- the number i in front, where the test passes
 abbrev pub keep : Bool → ℕ → List ℕ → List ℕ
@@ -47,7 +47,7 @@ reaches None cycle = false
 
 -- the same, or `cycle_start > next`
 unfoldable pub breaks_at : Walk → ℕ → Bool
-breaks_at w cycle = reaches w.max_cycles cycle || lt w.next (cycle_start w cycle)
+breaks_at w cycle = reaches w.max_cycles cycle || lt w.step.next (cycle_start w cycle)
 
 -- after `saturating_add`: `cycle == u32::MAX`, or one of the breaks above
 unfoldable pub stops_at : Walk → ℕ → Bool
@@ -72,11 +72,11 @@ cycles_from = cycles_within (2 ^ 32)
 
 -- `(Some(max_cycles), period)`
 abbrev pub limited_to : Float → Float → Float → ℕ → Walk
-limited_to prev next period most = record { prev = prev; next = next; period = period; max_cycles = Some most }
+limited_to prev next period most = record { step = record { prev = prev; next = next }; period = period; max_cycles = Some most }
 
 -- `(None, period)`
 abbrev pub endlessly : Float → Float → Float → Walk
-endlessly prev next period = record { prev = prev; next = next; period = period; max_cycles = None }
+endlessly prev next period = record { step = record { prev = prev; next = next }; period = period; max_cycles = None }
 
 -- `match self.looping`: forward and back are one cycle of a ping-pong
 abbrev pub walk_of : Loop → Float → Float → Float → Walk
@@ -88,7 +88,7 @@ walk_of (PingPongTimes n) base prev next = limited_to prev next (mul binary32 ba
 
 -- `(prev / period).max(0.0) as u32`
 abbrev pub first_cycle : Walk → ℕ
-first_cycle w = to_u32 (max_f (div binary32 w.prev w.period) zero_f)
+first_cycle w = to_u32 (max_f (div binary32 w.step.prev w.period) zero_f)
 
 -- `return labels` before there are any, where the test passes
 abbrev pub none_if : Bool → List ℕ → List ℕ

@@ -3,24 +3,28 @@
 // One pass over the cycles counts the completions, and stops as soon as they outnumber the lent list; a second pass writes them.
 #![tactic(auto)]
 
-ghost use Rattle.std.specs.Prelude.{◌≡◌, true, false, ◌+◌, ◌≤◌, min, length, leb, Option, Some, None};
+ghost use Rattle.std.specs.Prelude.{◌≡◌, true, false, cond, ◌+◌, ◌-◌, ◌≤◌, max, length, leb, Option, Some, None};
 ghost use mathlib.Core.List.{foldl};
+ghost use Rattle.std.specs.Range.{range_inclusive_start, range_inclusive_end, range_inclusive_exhausted};
 ghost use Rattle.std.proofs.lemmas.List.Edits.{sets};
 ghost use Rattle.std.specs.Float.Ieee.{is_nan, lt};
 ghost use Rattle.float32.specs.Helpers.{zero_f, max_f};
 ghost use Rattle.steps.specs.Slices.{over};
-ghost use Rattle.completions.specs.Completions.{cycle_start, completes, in_cycle, breaks_at, stops_at, walk_of, first_cycle, cycles_from, completions_in, empty_at_nan};
+ghost use Rattle.completions.specs.Completions.{last_cycle, cycle_start, completes, in_cycle, breaks_at, walk_of, first_cycle, cycles_from, completions_in, empty_at_nan};
 ghost use Rattle.completions.specs.Columns.{most_entries, ends, first_ends};
 ghost use Rattle.completions.specs.Answers.{counted, Listed};
 ghost use Rattle.completions.specs.Claims.{Claims};
 
+use std::ops::RangeInclusive;
+use steps::{Run, Step};
 use tween::Loop;
 use tween::loop_mode::passes;
 
 // The list numbers entries in bytes: those past this many are not listed.
 pub const MOST_ENTRIES: usize = 256;
 
-// Where the entries stand: their starts and their durations, two lent columns. Entries past the shorter column do not count.
+// Where the entries stand: their starts and their durations, two lent columns, over which the loops run in place. Each has a
+// length of its own, since whoever lends them may give any two: entries past the shorter column do not count.
 #[derive(Clone, Copy)]
 pub struct Spans<'a> {
     pub starts: &'a [f32],
@@ -48,33 +52,57 @@ impl<'a> Spans<'a> {
     }
 }
 
+// Columns of N entries, held.
+#[derive(Clone, Copy, Debug)]
+pub struct SpanArrays<const N: usize> {
+    pub starts: [f32; N],
+    pub durations: [f32; N],
+}
+
+impl<const N: usize> SpanArrays<N> {
+    // All of them, lent.
+    pub fn spans(&self) -> Spans<'_>
+        ensures { (result.starts.now ≡ self.now.starts) × (result.durations.now ≡ self.now.durations) }
+    {
+        Spans {
+            starts: &self.starts,
+            durations: &self.durations,
+        }
+    }
+}
+
+// The cycles from the first on: `cycle.saturating_add(1)`, and a break at u32::MAX, which so is gone over only where it is the first.
+fn onward(first: u32) -> RangeInclusive<u32>
+    ensures { (range_inclusive_start result ≡ first) × (range_inclusive_end result ≡ max first (last_cycle - 1)) × (range_inclusive_exhausted result ≡ false) }
+{
+    first..=first.max(u32::MAX - 1)
+}
+
 // What stays as it is over a walk.
 #[derive(Clone, Copy)]
 struct Walk {
-    prev: f32,
-    next: f32,
+    step: Step,
     period: f32,
     max_cycles: Option<u32>,
 }
 
 impl Walk {
     // `match self.looping`: how many cycles there are, and how long each is.
-    fn over(mode: Loop, base: f32, prev: f32, next: f32) -> Walk
-        ensures { result ≡ walk_of mode base prev next }
+    fn over(run: Run, step: Step) -> Walk
+        ensures { result ≡ walk_of run.mode run.base step.prev step.next }
     {
-        let (max_cycles, period) = match mode {
-            Loop::Once => (Some(1), base),
-            Loop::Times(n) => (Some(passes(n)), base),
-            Loop::Forever => (None, base),
-            Loop::PingPong => (None, base * 2.0),
+        let (max_cycles, period) = match run.mode {
+            Loop::Once => (Some(1), run.base),
+            Loop::Times(n) => (Some(passes(n)), run.base),
+            Loop::Forever => (None, run.base),
+            Loop::PingPong => (None, run.base * 2.0),
             Loop::PingPongTimes(n) => {
                 let passes = passes(n);
-                (Some(passes / 2 + passes % 2), base * 2.0)
+                (Some(passes / 2 + passes % 2), run.base * 2.0)
             }
         };
         Walk {
-            prev,
-            next,
+            step,
             period,
             max_cycles,
         }
@@ -84,7 +112,7 @@ impl Walk {
     fn first_cycle(self) -> u32
         ensures { result ≡ first_cycle self }
     {
-        float32::to_u32(float32::max(self.prev / self.period, 0.0))
+        float32::to_u32(float32::max(self.step.prev / self.period, 0.0))
     }
 
     // `cycle as f32 * period`
@@ -100,15 +128,8 @@ impl Walk {
     fn breaks_at(self, cycle: u32) -> bool
         ensures { result ≡ breaks_at self cycle }
     {
-        self.max_cycles.is_some_and(|most| cycle >= most) || self.cycle_start(cycle) > self.next
-    }
-
-    // Whether it does after the count went on to this cycle.
-    #[tactic(auto, unfolding(crate::specs::Completions::stops_at))]
-    fn stops_at(self, cycle: u32) -> bool
-        ensures { result ≡ stops_at self cycle }
-    {
-        cycle == u32::MAX || self.breaks_at(cycle)
+        self.max_cycles.is_some_and(|most| cycle >= most)
+            || self.cycle_start(cycle) > self.step.next
     }
 
     // `prev < completion && completion <= next`
@@ -117,7 +138,7 @@ impl Walk {
         ensures { result ≡ completes self start end }
     {
         let completion = start + end;
-        self.prev < completion && completion <= self.next
+        self.step.prev < completion && completion <= self.step.next
     }
 
     // How many of the entries complete in the cycle that starts at start.
@@ -153,18 +174,16 @@ impl Walk {
     fn count(self, spans: Spans, first: u32, room: usize) -> Option<usize>
         ensures { result ≡ counted (leb (length (cycles_from self (ends spans.entry) first)) room) (length (cycles_from self (ends spans.entry) first)) }
     {
-        // by `while`: the last cycle, u32::MAX, is gone over only where it is the first
         let mut m: usize = 0;
-        let mut cycle = first;
-        let mut stop = self.breaks_at(cycle);
-        while !stop {
+        for cycle in onward(first) {
+            if self.breaks_at(cycle) {
+                break;
+            }
             let k = self.count_cycle(spans, self.cycle_start(cycle));
             if room - m < k {
                 return None;
             }
             m += k;
-            cycle = cycle.saturating_add(1);
-            stop = self.stops_at(cycle);
         }
         Some(m)
     }
@@ -174,14 +193,12 @@ impl Walk {
         requires { (length (ends spans) ≤ most_entries) × (length (cycles_from self (ends spans) first) ≤ length list.old) }
         ensures { list.new ≡ over (cycles_from self (ends spans.entry) first) list.old }
     {
-        // by `while`: the last cycle, u32::MAX, is gone over only where it is the first
         let mut m: usize = 0;
-        let mut cycle = first;
-        let mut stop = self.breaks_at(cycle);
-        while !stop {
+        for cycle in onward(first) {
+            if self.breaks_at(cycle) {
+                break;
+            }
             m = self.write_cycle(spans, self.cycle_start(cycle), list, m);
-            cycle = cycle.saturating_add(1);
-            stop = self.stops_at(cycle);
         }
     }
 
@@ -201,45 +218,35 @@ impl Walk {
 
 // The larger of the two: `acc.max(end)`, where acc is no NaN. One test, where `float32::max` has two.
 fn later(acc: f32, end: f32) -> f32
-    requires { is_nan acc ≡ false }
-    ensures { result ≡ max_f acc end }
+    ensures { result ≡ cond (lt acc end) end acc }
 {
     if acc < end { end } else { acc }
 }
 
-// The base of the first count entries: `Timeline::duration`.
-pub fn base(count: usize, spans: Spans) -> f32
-    ensures { result ≡ foldl max_f zero_f (first_ends count spans.entry) }
+// The base of these entries: `Timeline::duration`.
+pub fn base(spans: Spans) -> f32
+    ensures { result ≡ foldl max_f zero_f (ends spans.entry) }
 {
-    let spans = spans.first(count);
-    let mut base: f32 = 0.0;
-    for (start, duration) in spans.starts.iter().zip(spans.durations) {
-        base = later(base, *start + *duration);
-    }
-    base
+    spans.starts.iter().zip(spans.durations).fold(
+        0.0,
+        |base, (start, duration)| later(base, *start + *duration),
+    )
 }
 
-// The completions of the first count entries from prev to next, over the front of the list: how many they are, or none where
-// they outnumber the list. Where next is not past prev, or one of the two is a NaN, there are no completions.
-pub fn between(
-    count: usize,
-    spans: Spans,
-    base: f32,
-    mode: Loop,
-    prev: f32,
-    next: f32,
-    list: &mut [u8],
-) -> Option<usize>
-    ensures { Listed (empty_at_nan prev next (completions_in mode (first_ends (min count most_entries) spans.entry) base prev next)) list.old list.new result }
+// What of these entries, of which those past `MOST_ENTRIES` are left out, completes in a step, over the front of the list: how
+// many completions there are, or none where they outnumber the list. A step that does not go on, or that comes from a NaN or
+// goes to one, has none.
+pub fn between(spans: Spans, run: Run, step: Step, list: &mut [u8]) -> Option<usize>
+    ensures { Listed (empty_at_nan step.prev step.next (completions_in run.mode (first_ends most_entries spans.entry) run.base step.prev step.next)) list.old list.new result }
 {
-    if !(prev < next) || base <= 0.0 {
+    if !(step.prev < step.next) || run.base <= 0.0 {
         return Some(0);
     }
-    let walk = Walk::over(mode, base, prev, next);
+    let walk = Walk::over(run, step);
     if walk.period <= 0.0 {
         return Some(0);
     }
-    walk.list(spans.first(count.min(MOST_ENTRIES)), list)
+    walk.list(spans.first(MOST_ENTRIES), list)
 }
 
 // The claims of specs/Claims.antt hold.

@@ -1,11 +1,11 @@
 -- How many decimal digits a number has.
-use Prim.Native.Nat.{ℕ, zero, suc, ◌/◌, ◌^◌, ◌≤◌, ◌<◌}
+use Prim.Native.Nat.{ℕ, zero, suc, ◌+◌, ◌*◌, ◌/◌, ◌^◌, ◌≤◌, ◌<◌}
 use mathlib.Core.Path.{◌≡◌, refl, ap, ◌∙◌}
 use mathlib.Core.Bool.{Bool, true, false}
-use native.Mathlib.Nat.{pow-suc, zero-lt-suc, not-suc-le-zero}
+use native.Mathlib.Nat.{pow-suc, pow-le-pow_right, lt_of_not-le, zero-lt-suc, not-suc-le-zero}
 use native.Mathlib.Omega.{arith}
 use borrow.Author.Tests.{lt-ltb, le-ltb, ltb-true, ltb-false}
-use lib.Dec.{ltb}
+use lib.Dec.{ltb, lit<}
 use Rattle.digits.specs.Digits.{decimal_places_from, decimal_places}
 
 -- ---- at any fuel
@@ -33,11 +33,11 @@ enough (suc j) (suc k) n h g = step (ltb n 10) j k n (enough j k (n / 10) (omega
 
 -- ---- the number of digits: one below 10, else one more than n / 10 has
 
-pub places_small : (n : ℕ) → n < 10 → decimal_places n ≡ 1
+places_small : (n : ℕ) → n < 10 → decimal_places n ≡ 1
 unfolding decimal_places
 places_small n h = from_small n n h
 
-pub places_large : (n : ℕ) → 10 ≤ n → decimal_places n ≡ suc (decimal_places (n / 10))
+places_large : (n : ℕ) → 10 ≤ n → decimal_places n ≡ suc (decimal_places (n / 10))
 unfolding decimal_places
 places_large zero h = absurd (not-suc-le-zero h)
 places_large (suc m) h = from_large m (suc m) h ∙ ap suc (enough m (suc m / 10) (suc m / 10) (omega arith) (omega arith))
@@ -77,3 +77,15 @@ places_least n (suc (suc k)) p h =
     let s = pow-suc 10 (suc k) in
     let rest = places_least (n / 10) (suc k) (zero-lt-suc k) (omega arith) in
     by_size (λ m. decimal_places m ≤ suc (suc k)) n (λ g. omega (arith, places_small n g)) (λ g. omega (arith, places_large n g))
+
+-- by the largest power of 10 that is no larger
+pub places_power : (n k : ℕ) → 10 ^ k ≤ n → n < 10 * 10 ^ k → decimal_places n ≡ k + 1
+places_power n k h g =
+    let enough : k < decimal_places n = lt_of_not-le (λ l. let low : 10 ^ decimal_places n ≤ 10 ^ k = pow-le-pow_right (lit< tt) l in omega (arith, places_enough n)) in
+    let least : decimal_places n ≤ suc k = places_least n (suc k) (zero-lt-suc k) (rw pow-suc (omega arith)) in
+    omega arith
+
+pub places_zero : (n : ℕ) → n ≡ 0 → decimal_places n ≡ 1
+places_zero n e = places_small n (omega arith)
+
+pub ruleset counts = (places_power, places_zero)

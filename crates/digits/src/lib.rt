@@ -29,18 +29,12 @@ pub fn put_hex2(n: u8, out: &mut [u8], at: usize) -> Option<usize>
     put_digits(usize::from(n), 16, 2, out, at)
 }
 
-// How many digits n has in decimal. A `while`, since it goes until the rest is small and counts the turns: no range says that plainer.
-#[tactic(auto, using(crate::proofs::Places::places_small, crate::proofs::Places::places_large))]
+// How many digits n has in decimal.
+#[tactic(auto, using(crate::proofs::Places::counts))]
 fn decimal_places(n: usize) -> usize
     ensures { result ≡ decimal_places n }
 {
-    let mut rest = n;
-    let mut places = 1;
-    while rest >= 10 {
-        rest /= 10;
-        places += 1;
-    }
-    places
+    n.checked_ilog10().map_or(1, |power| power as usize + 1)
 }
 
 // Writes the last width digits of n at `at`, where they have room.
@@ -56,7 +50,7 @@ fn put_digits(n: usize, base: usize, width: usize, out: &mut [u8], at: usize) ->
     Some(width)
 }
 
-// From the last digit to the first.
+// From the last digit to the first. By index: after an `iter_mut` a proof knows how long the slice is, and not what it holds.
 fn write_digits(n: usize, base: usize, width: usize, out: &mut [u8], at: usize)
     requires base_nonzero { (0 < base) × (base ≤ 16) }
     requires width_in_bounds { at + width ≤ length out.old }

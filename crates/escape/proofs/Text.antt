@@ -5,12 +5,14 @@ use mathlib.Core.Bool.{Bool, true, false}
 use mathlib.Core.List.{List, [], ◌∷◌, ◌++◌, append_assoc, append-nil}
 use native.Mathlib.Numerals.{add-one}
 use native.Mathlib.Omega.{arith}
+use Rattle.std.specs.Prelude.{Option}
+use Rattle.core.specs.Option.{unwrap_or}
 use lib.ListN.{length, take, get_or, set, length-set, length-append}
 use lib.Seq.{take-suc, take_all, sets-eq}
 use Rattle.digits.specs.Digits.{hex_text, put_at, Put}
 use Rattle.digits.proofs.Length.{length_digits}
 use Rattle.digits.proofs.PutAt.{put_at_nil, put_at_append}
-use Rattle.digits.proofs.Room.{written-whole}
+use Rattle.digits.proofs.Room.{put_whole}
 use Rattle.escape.specs.Escape.{plain, escaped_byte, escaped}
 
 -- ---- a byte
@@ -37,18 +39,17 @@ pub put_plain : (b at : ℕ) (old : List ℕ) → at + 4 ≤ length old → plai
 put_plain b at old h e = rw (byte_plain b e) (refl, sets-eq (b ∷ []) old at (omega arith))
 
 -- another: `\x` is stored, then its digits are put
-pub put_other : (b at count : ℕ) (old new : List ℕ) → at + 4 ≤ length old → plain b ≡ false
-    → Put (hex_text 2 b) (at + 2) (set (set old at 92) (at + 1) 120) new count
-    → (2 + count ≡ length (escaped_byte b)) × (new ≡ put_at (escaped_byte b) at old)
-put_other b at count old new h e p =
+pub put_other : (b at : ℕ) (count : Option ℕ) (n : ℕ) (old new : List ℕ) → at + 4 ≤ length old → plain b ≡ false
+    → Put (hex_text 2 b) (at + 2) (set (set old at 92) (at + 1) 120) new count → n ≡ unwrap_or count 0
+    → (2 + n ≡ length (escaped_byte b)) × (new ≡ put_at (escaped_byte b) at old)
+put_other b at count n old new h e p counted =
     let two = length_digits 16 2 b in
     let front : set (set old at 92) (at + 1) 120 ≡ put_at (92 ∷ 120 ∷ []) at old = rw (add-one at) (sets-eq (92 ∷ 120 ∷ []) old at (omega arith)) in
     let same : length (set (set old at 92) (at + 1) 120) ≡ length old = simp length-set in
-    let whole = written-whole (hex_text 2 b) (at + 2) (set (set old at 92) (at + 1) 120) (omega arith) in
-    let counted = p.counted ∙ whole.1 in
+    let whole = put_whole (hex_text 2 b) (at + 2) (set (set old at 92) (at + 1) 120) new count n (omega arith) p counted in
     let long : length (92 ∷ 120 ∷ hex_text 2 b) ≡ 4 = omega arith in
     rw (byte_other b e)
-    (omega arith, p.bytes ∙ whole.0 ∙ rw front (put_at_append (92 ∷ 120 ∷ []) (hex_text 2 b) at old (omega arith)))
+    (omega (arith, whole.0), whole.1 ∙ rw front (put_at_append (92 ∷ 120 ∷ []) (hex_text 2 b) at old (omega arith)))
 
 -- ---- bytes
 

@@ -7,7 +7,7 @@ ghost use Rattle.escape.specs.Escape.{plain, escaped_byte, escaped_by, escaped_r
 ghost use Rattle.escape.specs.Claim.{Claim};
 
 // How many bytes were taken, and how many bytes their text has. Two numbers of one meaning each: neither says whether the other holds.
-#[derive(Clone, Copy)]
+#[derive(Clone, Copy, Debug, PartialEq, Eq)]
 pub struct Escaped {
     pub used: usize,
     pub len: usize,

@@ -21,7 +21,8 @@ use Rattle.history.specs.Entries.{SameEntries}
 use Rattle.history.specs.Invariant.{Invariant}
 use Rattle.history.specs.Claim.{is_accepted, builds, AllBuild, keep_call, own_build}
 use Rattle.history.proofs.Spans.{same_refl, same_trans, lengths, named-starts, starts}
-use Rattle.history.proofs.Added.{grown-same, added-by, added_is, added-room}
+use Rattle.timeline.proofs.Growing.{grows}
+use Rattle.history.proofs.Added.{grown-same, added-by, added-room}
 use Rattle.history.proofs.Calls.{call_by, and_left}
 use Rattle.history.proofs.Stays.{Stays, stays}
 use Rattle.history.proofs.Kept.{step_kept}
@@ -65,7 +66,7 @@ module _ (t u : Timeline) (inv : Invariant t) (inv' : Invariant u) (s : SameEntr
       let room = added-room t name start duration a in
       let h : t.track.count < max_entries = room.0 in
       let h' : u.track.count < max_entries = omega (arith, count_live t inv, count_live u inv', lengths s) in
-      rw (added_is t name start duration h room.1, added_is u name start' duration h' room.1)
+      rw (grows t name start duration h room.1, grows u name start' duration h' room.1)
       (record {
         taken = refl;
         same = grown-same t u name start start' duration (omega (arith, inv.entries)) (omega (arith, inv.labels)) (omega (arith, inv'.entries)) (omega (arith, inv'.labels)) s e;

@@ -4,13 +4,15 @@ use mathlib.Core.Logic.{◌⊎◌, inl, inr}
 use mathlib.Core.Bool.{Bool, true, false, not, ◌&&◌, ◌||◌, beq, cond, false≢true, or-true}
 use Prim.Native.Nat.{ℕ, ◌+◌, ◌-◌, ◌*◌, ◌%◌, ◌<◌}
 use native.Mathlib.Nat.{mul-pos, mul_comm, mul_assoc, mul_right_comm, add-mul, mul-sub, zero-mod, mul-lt-mul_of_pos_right, lt_of_mul-lt-mul_right}
-use borrow.Author.Tests.{eqb-true, eq-eqb, lt-ltb, ltb-true}
+use borrow.Author.Tests.{eqb-true, lt-ltb, ltb-true}
 use lib.Dec.{eqb, ltb}
 use lib.IntN.{ℤ}
-use lib.Ieee.{Float, nan, inf, fin, Format, up, down, level, round, sum, add, sub, rem, neg, lt, le, eq}
+use lib.Ieee.{Float, nan, inf, fin, Format, up, down, round, sum, add, sub, rem, neg, lt, le, eq}
+use lib.Ieee.Bits.{is_true}
 use lib.Ieee.Exact.{HasValue}
 use lib.Ieee.Fits.{up_pos, down_pos}
 use lib.Ieee.Scale.{round_same}
+use Rattle.std.proofs.lemmas.Float.{T_from_true, eq_flip as flip}
 use Rattle.float32.specs.Helpers.{min_f}
 use Rattle.float32.proofs.Order.{first_zero, zero_times, le-no_nan, le_trans, le_of_eq, lt_of_lt_of_le}
 use Rattle.float32.proofs.MaxMin.{min-is}
@@ -19,31 +21,9 @@ use Rattle.float32.proofs.Nonneg.{zero_size, round-zero_value}
 use Rattle.steps.proofs.Tests.{and-true}
 
 -- ---- what `eq` says of two values
-level_flip : (s t : Bool) (a b : ℕ) → level s a t b ≡ true → level t b s a ≡ true
-level_flip s t a b h =
-    let k = and-true (eqb a b) (beq s t || eqb a 0) h in
-    let e : b ≡ a = sym (eqb-true a b k.0) in
-    rw (eq-eqb b a e, e) (signs s t k.1)
-  where
-    signs : (s t : Bool) → (beq s t || eqb a 0) ≡ true → (beq t s || eqb a 0) ≡ true
-    signs true true p = refl
-    signs true false p = p
-    signs false true p = p
-    signs false false p = refl
-
 -- the other way round
 pub eq_flip : (x y : Float) → eq x y ≡ true → eq y x ≡ true
-unfolding eq
-eq_flip nan y h = absurd (false≢true h)
-eq_flip (inf s) nan h = absurd (false≢true h)
-eq_flip (inf true) (inf true) h = refl
-eq_flip (inf true) (inf false) h = absurd (false≢true h)
-eq_flip (inf false) (inf true) h = absurd (false≢true h)
-eq_flip (inf false) (inf false) h = refl
-eq_flip (inf s) (fin t n d) h = absurd (false≢true h)
-eq_flip (fin s m e) nan h = absurd (false≢true h)
-eq_flip (fin s m e) (inf t) h = absurd (false≢true h)
-eq_flip (fin s m e) (fin t n d) h = level_flip s t (m * up e * down d) (n * up d * down e) h
+eq_flip x y h = is_true (eq y x) (flip x y (T_from_true (eq x y) h))
 
 zero_of : (m : ℕ) (e : ℤ) (c : ℕ) → 0 < c → m * up e * c ≡ 0 → m ≡ 0
 zero_of m e c C h = first_zero m (up e) (up_pos e) (first_zero (m * up e) c C h)

@@ -8,8 +8,9 @@ ghost use Rattle.label.specs.Label.{max_label, text, label_of, same_text, first_
 pub const MAX_LABEL: usize = 24;
 
 // The text is the first len bytes; a length past MAX_LABEL counts as MAX_LABEL. Bytes past the text are no part of the label and
-// are kept zero. An array and a length: paper 01 has fixed arrays in place of heap types.
-#[derive(Clone, Copy)]
+// are kept zero. An array and a length: in paper 01 `Vec` and `String` become fixed arrays, and a label is Copy, which an
+// `ArrayVec` is not.
+#[derive(Clone, Copy, Debug)]
 pub struct Label {
     pub bytes: [u8; MAX_LABEL],
     pub len: u8,

@@ -5,6 +5,8 @@ use Rattle.std.specs.Prelude.{Result, Ok, Err}
 use Rattle.refusal.specs.declared.Refusal.{Refusal}
 use Rattle.track.specs.declared.rows.Rows.{Rows}
 use Rattle.track.specs.Answers.{refused_where, SameSlices}
+use Rattle.player.specs.declared.engine.Player.{Player}
+use Rattle.player.specs.Answered.{SameColumns}
 
 abbrev refuses : {A : Type 0} → Result A Refusal → Bool
 refuses (Ok x) = false
@@ -28,3 +30,7 @@ module _ (r : Refusal) {x : Result Unit Refusal} where
 -- rows that nobody wrote are the same slices
 pub same_slices : (r : Rows) → SameSlices r r
 same_slices r = record { kinds = refl; amounts = refl; places = refl }
+
+-- nor is a player other that nobody moved
+pub same_player : (p : Player) → SameColumns p p
+same_player p = record { head = refl; spans = refl; marks = refl }

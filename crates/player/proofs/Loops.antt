@@ -11,9 +11,12 @@ use Rattle.steps.specs.Slices.{over}
 use Rattle.steps.specs.declared.Entry.{Entry}
 use Rattle.steps.specs.declared.Row.{Row}
 use Rattle.steps.specs.declared.Rule.{Rule}
+use Rattle.steps.specs.declared.Step.{Step}
 use Rattle.steps.specs.declared.Stepped.{Stepped}
 use Rattle.steps.proofs.Lists.{front, front-more, front_at, front-all, map_at, map-map}
+use Rattle.completions.specs.declared.Spans.{Spans}
 use Rattle.clock.specs.declared.Clock.{Clock}
+use Rattle.track.specs.declared.rows.Rows.{Rows}
 use Rattle.track.specs.declared.track.Track.{Track}
 use Rattle.track.specs.declared.track.Playhead.{Playhead}
 use Rattle.track.specs.Tracks.{live, rows_of, done_of, moved, Sent}
@@ -22,6 +25,9 @@ use Rattle.track.specs.Updates.{ticks}
 use Rattle.track.proofs.Marks.{no_entry, no_step}
 use Rattle.track.proofs.Columns.{first_at, own, put}
 use Rattle.track.proofs.Ticks.{length-ticks}
+use Rattle.player.specs.declared.engine.Player.{Player}
+use Rattle.player.specs.Answered.{playing_in, SameColumns}
+use Rattle.player.specs.Loops.{first_in, ticks_in, SentIn, SentTo}
 
 -- each step's part of the three row slices
 abbrev kinds_of : List Stepped → List ℕ
@@ -127,25 +133,40 @@ module _ (n : ℕ) (xs : List Stepped) (ss ds : List Float) (m₀ : List Bool) (
           },
         )
 
--- ---- what the loop leaves of the track
+-- ---- what the loop leaves of the player
 
-module _ (h : Playhead) (ss ds : List Float) (ms : List Bool) (n : ℕ) (all : n ≡ length (live (track_of h ss ds ms))) (c : Clock) (ms' : List Bool) (k₀ k : List ℕ) (a₀ a p₀ p : List Float) where
+-- q is the player p with the clock c, and with other marks
+pub record Left (p q : Player) (c : Clock) : Type 0 where
+  pub head : q.head ≡ with_clock_at p.head c
+  pub spans : q.spans ≡ p.spans
+  pub marks : q.marks.ghost_name ≡ p.marks.ghost_name
+
+pub same_columns : {p q : Player} {c : Clock} → Left p q c → SameColumns p q
+same_columns {p} {q} {c} l =
+    let own : q.head.clock ≡ c = ap (λ (h : Playhead). h.clock) l.head in
+    record { head = l.head ∙ ap (with_clock_at p.head) (sym own); spans = l.spans; marks = l.marks }
+
+module _ (p : Player) {n : ℕ} (all : n ≡ length (live (playing_in p))) where
   abbrev t : Track
-  t = track_of h ss ds ms
+  t = playing_in p
 
-  -- steps for every entry have been sent
-  pub sent-own : (f : List Entry → List Stepped) → ((es : List Entry) → length (f es) ≡ length es) → (ms' ≡ over (done_of (f (first_of n ss ds ms))) ms) × Sent (rows_of (f (first_of n ss ds ms))) k₀ k a₀ a p₀ p
-      → (track_of (with_clock_at h c) ss ds ms' ≡ moved t c (f (live t))) × Sent (rows_of (f (live t))) k₀ k a₀ a p₀ p
-  sent-own f lf s =
-      let e = subst (λ (es : List Entry). (ms' ≡ over (done_of (f es)) ms) × Sent (rows_of (f es)) k₀ k a₀ a p₀ p) (own h ss ds ms n all) s in
-      (put h ss ds ms n all c (f (live t)) (lf (live t)) ms' e.0, e.1)
+  module _ {q : Player} {c : Clock} {r s : Rows} (l : Left p q c) where
+    -- steps for every entry have been sent
+    pub sent-own : (f : List Entry → List Stepped) → ((es : List Entry) → length (f es) ≡ length es) → SentTo (f (first_in n p.spans p.marks.now)) p.marks.now q.marks.now r s
+        → (playing_in q ≡ moved t c (f (live t))) × SentIn (rows_of (f (live t))) r s
+    sent-own f lf s' =
+        let ss = p.spans.starts.now in
+        let ds = p.spans.durations.now in
+        let ms = p.marks.now in
+        let e = subst (λ (es : List Entry). SentTo (f es) ms q.marks.now r s) (own p.head ss ds ms n all) s' in
+        let columns = ap (λ (x : Spans). track_of q.head x.starts.now x.durations.now q.marks.now) l.spans ∙ ap (λ (h : Playhead). track_of h ss ds q.marks.now) l.head in
+        (columns ∙ put p.head ss ds ms n all c (f (live t)) (lf (live t)) q.marks.now e.0, e.1)
 
-  -- by a rule
-  pub applied : (rule : Rule) → (ms' ≡ over (done_of (map (ruled rule) (first_of n ss ds ms))) ms) × Sent (rows_of (map (ruled rule) (first_of n ss ds ms))) k₀ k a₀ a p₀ p
-      → (track_of (with_clock_at h c) ss ds ms' ≡ moved t c (map (ruled rule) (live t))) × Sent (rows_of (map (ruled rule) (live t))) k₀ k a₀ a p₀ p
-  applied rule = sent-own (map (ruled rule)) (λ (es : List Entry). length-map es (ruled rule))
+    -- by a rule
+    pub applied : (rule : Rule) → SentTo (map (ruled rule) (first_in n p.spans p.marks.now)) p.marks.now q.marks.now r s → (playing_in q ≡ moved t c (map (ruled rule) (live t))) × SentIn (rows_of (map (ruled rule) (live t))) r s
+    applied rule = sent-own (map (ruled rule)) (λ (es : List Entry). length-map es (ruled rule))
 
-  -- by a tick
-  pub ticked-own : (from to : Float) (rs : List ℕ) → (ms' ≡ over (done_of (ticks from to (first_of n ss ds ms) rs)) ms) × Sent (rows_of (ticks from to (first_of n ss ds ms) rs)) k₀ k a₀ a p₀ p
-      → (track_of (with_clock_at h c) ss ds ms' ≡ moved t c (ticks from to (live t) rs)) × Sent (rows_of (ticks from to (live t) rs)) k₀ k a₀ a p₀ p
-  ticked-own from to rs = sent-own (λ (es : List Entry). ticks from to es rs) (λ (es : List Entry). length-ticks from to es rs)
+    -- by a tick
+    pub ticked-own : (step : Step) (rs : List ℕ) → SentTo (ticks_in n step p.spans p.marks.now rs) p.marks.now q.marks.now r s
+        → (playing_in q ≡ moved t c (ticks step.prev step.next (live t) rs)) × SentIn (rows_of (ticks step.prev step.next (live t) rs)) r s
+    ticked-own step rs = sent-own (λ (es : List Entry). ticks step.prev step.next es rs) (λ (es : List Entry). length-ticks step.prev step.next es rs)

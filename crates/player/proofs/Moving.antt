@@ -1,53 +1,60 @@
 -- Play, reset and the seeks: refused by 3, or sent by a rule.
-use Prim.Native.Nat.{ℕ, ◌≤◌}
-use mathlib.Core.Path.{◌≡◌}
+use Prim.Native.Nat.{ℕ}
+use mathlib.Core.Path.{◌≡◌, refl}
 use mathlib.Core.Bool.{Bool}
-use mathlib.Core.List.{List, map}
+use mathlib.Core.List.{List, map, foldl}
 use lib.ListN.{length}
 use lib.Ieee.{Float}
+use Rattle.float32.specs.Helpers.{zero_f, max_f}
 use Rattle.std.specs.Prelude.{Result, Ok, Err}
 use Rattle.refusal.specs.declared.Refusal.{Refusal}
 use Rattle.refusal.specs.declared.Refusal.TheVariants.{RowsTooShort}
-use Rattle.refusal.specs.Refusal.{accepted, number_in, held_or}
+use Rattle.refusal.specs.Refusal.{accepted, number_in}
 use Rattle.steps.specs.declared.Rule.{Rule}
 use Rattle.steps.specs.Rows.{ruled}
-use Rattle.steps.specs.Slices.{over}
+use Rattle.completions.specs.Columns.{first_ends}
 use Rattle.clock.specs.declared.Clock.{Clock}
+use Rattle.track.specs.declared.rows.Rows.{Rows}
 use Rattle.track.specs.declared.track.Track.{Track}
-use Rattle.track.specs.declared.track.Playhead.{Playhead}
-use Rattle.track.specs.Tracks.{live, rows_of, done_of, Sent}
-use Rattle.track.specs.Columns.{first_of, track_of, with_clock_at}
-use Rattle.track.specs.Calls.{room_of, short_in, TrackOut, sent}
-use Rattle.track.specs.Answers.{MovesBy, refused_where}
-use Rattle.track.proofs.Columns.{roomy}
-use Rattle.track.proofs.Outcomes.{room-left, moves-short, moves-sent}
-use Rattle.player.proofs.Checks.{refused, passed}
-use Rattle.player.proofs.Loops.{applied}
+use Rattle.track.specs.Tracks.{live, track_base}
+use Rattle.track.specs.Columns.{entries_in}
+use Rattle.track.specs.Calls.{short_in, TrackOut, sent}
+use Rattle.track.specs.Answers.{SameSlices, MovesBy, refused_where}
+use Rattle.track.proofs.Columns.{counted, based}
+use Rattle.track.proofs.Outcomes.{moves-short, moves-sent}
+use Rattle.player.specs.declared.engine.Player.{Player}
+use Rattle.player.specs.Answered.{playing_in, room_in, SameColumns}
+use Rattle.player.specs.Loops.{first_in, SentTo}
+use Rattle.player.proofs.Checks.{refused, passed, same_slices, same_player}
+use Rattle.player.proofs.Loops.{Left, same_columns, applied}
 
-module _ (h : Playhead) (ss ds : List Float) (ms : List Bool) (k : List ℕ) (a p : List Float) {n : ℕ} (all : n ≡ length (live (track_of h ss ds ms)))
-    {r : Result Unit Refusal} (er : r ≡ refused_where (short_in n (length k) (length a) (length p)) RowsTooShort) where
+-- how many entries count
+module _ (p : Player) {n : ℕ} (en : n ≡ entries_in p.head.count (length p.spans.starts.now) (length p.spans.durations.now) (length p.marks.now)) where
   abbrev t : Track
-  t = track_of h ss ds ms
+  t = playing_in p
 
-  abbrev short : Bool
-  short = short_in n (length k) (length a) (length p)
+  -- as many as the track has, whose base is theirs
+  pub all_own : n ≡ length (live t)
+  all_own = counted p.head p.spans.starts.now p.spans.durations.now p.marks.now en
 
-  -- every slice has room for the loop
-  pub apply-room : r ≡ Ok tt → ((n ≤ length ss) × (n ≤ length ds) × (n ≤ length ms)) × ((n ≤ length k) × (n ≤ length a) × (n ≤ length p))
-  apply-room e =
-      let wide = roomy h ss ds ms n all in
-      ((wide.0, wide.1, wide.2), room-left n k a p (passed RowsTooShort short er e))
+  pub base-own : {base : Float} → base ≡ foldl max_f zero_f (first_ends n p.spans) → base ≡ track_base t
+  base-own = based p.head p.spans.starts.now p.spans.durations.now p.marks.now n all_own
 
-  module _ (c : Clock) (rule : Rule) {o : TrackOut} (eo : sent t c rule (room_of k a p) ≡ o) where
+  -- and whether the rows are too short for them
+  module _ (r : Rows) {y : Result Unit Refusal} (ey : y ≡ refused_where (short_in n (length r.kinds.now) (length r.amounts.now) (length r.places.now)) RowsTooShort) where
+    abbrev short : Bool
+    short = short_in n (length r.kinds.now) (length r.amounts.now) (length r.places.now)
+
     -- refused: nothing has moved
-    pub refused-moves : {e : Refusal} → r ≡ Err e → {x : Result Clock Refusal} → x ≡ Err e → MovesBy o (number_in x) (track_of (with_clock_at h (held_or h.clock x)) ss ds ms) k k a a p p
-    refused-moves e ex =
-        let y = refused RowsTooShort short er e in
-        rw (ex, y.1) (moves-short t c rule k a p all o eo y.0)
+    pub moves-refused : {c : Clock} {rule : Rule} {o : TrackOut} → sent t c rule (room_in r) ≡ o → (e : Refusal) → y ≡ Err e → {x : Result Unit Refusal} → x ≡ Err e
+        → SameColumns p p × SameSlices r r × MovesBy o (number_in x) t r.kinds.now r.kinds.now r.amounts.now r.amounts.now r.places.now r.places.now
+    moves-refused {c} {rule} {o} eo e f ex =
+        let z = refused RowsTooShort short ey f in
+        (same_player p, same_slices r, rw (ex, z.1) (moves-short t c rule r.kinds.now r.amounts.now r.places.now all_own o eo z.0))
 
     -- accepted: every entry has its row and its mark
-    pub accepted-moves : r ≡ Ok tt → (ms' : List Bool) (k' : List ℕ) (a' p' : List Float)
-        → (ms' ≡ over (done_of (map (ruled rule) (first_of n ss ds ms))) ms) × Sent (rows_of (map (ruled rule) (first_of n ss ds ms))) k k' a a' p p' → MovesBy o accepted (track_of (with_clock_at h c) ss ds ms') k k' a a' p p'
-    accepted-moves e ms' k' a' p' s =
-        let own = applied h ss ds ms n all c ms' k k' a a' p p' rule s in
-        moves-sent t c rule k a p all o eo (passed RowsTooShort short er e) _ k' a' p' own.0 own.1
+    pub moves-on : {c : Clock} {rule : Rule} {o : TrackOut} → sent t c rule (room_in r) ≡ o → y ≡ Ok tt → {q : Player} {s : Rows} → Left p q c → SentTo (map (ruled rule) (first_in n p.spans p.marks.now)) p.marks.now q.marks.now r s
+        → SameColumns p q × SameSlices r s × MovesBy o accepted (playing_in q) r.kinds.now s.kinds.now r.amounts.now s.amounts.now r.places.now s.places.now
+    moves-on {c} {rule} {o} eo f {q} {s} l sent-to =
+        let z = applied p all_own l rule sent-to in
+        (same_columns l, z.1.0, moves-sent t c rule r.kinds.now r.amounts.now r.places.now all_own o eo (passed RowsTooShort short ey f) (playing_in q) s.kinds.now s.amounts.now s.places.now z.0 z.1.1)

@@ -1,242 +1,258 @@
-// The clocked calls of timeline.rs on what plays in three lent columns. Each answers the clock to go on with; a refused one has moved
+// The clocked calls of timeline.rs on what plays in three lent columns. Each leaves its clock in the playhead; a refused one has moved
 // nothing.
 ghost use Rattle.std.specs.Prelude.{◌≡◌, [], ◌≤◌, length};
+ghost use mathlib.Core.List.{foldl};
+ghost use Rattle.float32.specs.Helpers.{zero_f, max_f};
+ghost use Rattle.completions.specs.Columns.{first_ends};
 ghost use Rattle.clock.specs.Clocks.{advanced_clock, stayed_clock};
 ghost use Rattle.track.specs.Tracks.{live, track_base};
-ghost use Rattle.track.specs.Columns.{track_of};
 ghost use Rattle.track.specs.Calls.{Play, Reset, Seek, SeekAbs, updated};
-ghost use Rattle.track.specs.Answers.{resting_in, reached_from, stayed_in, seen, lent_track, SentIn, MovesInPlace, UpdatesInPlace, ShowsInPlace};
-ghost use Rattle.player.specs.Loops.{counted_at, Writes};
-ghost use Rattle.player.specs.Answered.{answer_in, answer_of, clock_of, ticked_to, synced_to, UpdatesTo};
+ghost use Rattle.track.specs.Answers.{reached_from, stayed_in};
+ghost use Rattle.player.specs.Loops.{Writes, SentIn};
+ghost use Rattle.player.specs.Answered.{at_clock, playing_in, answer_of, ticked_to, synced_to, MovesInPlace, UpdatesInPlace, UpdatesTo, ShowsInPlace};
 
 use crate::entries::{apply, outnumber, tick};
-use clock::{Clock, Reach};
+use clock::Reach;
 use completions::{MOST_ENTRIES, Spans};
 use refusal::Refusal;
-use steps::Rule;
+use steps::{Rule, Run, Step};
 use track::checks::check_replies;
 use track::rows::Rows;
 use track::track::{Playhead, Secs, Share};
 
-// The answer of update: whether it still runs, whether the whole-run completion fired now, how many entries it listed, and the clock.
-#[derive(Clone, Copy)]
+// What plays in lent columns: the playhead, where the entries stand, and their marks.
+#[derive(Drop)]
+pub struct Player<'s, 'm> {
+    pub head: Playhead,
+    pub spans: Spans<'s>,
+    pub marks: &'m mut [bool],
+}
+
+// The answer of update: whether it still runs, whether the whole-run completion fired now, and how many entries it listed.
+#[derive(Clone, Copy, Debug, PartialEq, Eq)]
 pub struct Updated {
     pub running: bool,
     pub completed: bool,
     pub listed: usize,
-    pub clock: Clock,
 }
 
-// `play`
-pub fn play(
-    head: Playhead,
-    spans: Spans<'_>,
-    marks: &mut [bool],
-    rows: &mut Rows<'_>,
-) -> Result<Clock, Refusal>
-    ensures { MovesInPlace head spans.entry marks Play result rows }
-{
-    let n = head.entries(spans, marks.len());
-    rows.check(n)?;
-    let base = completions::base(n, spans);
-    let rule = clock::play_rule(head.looping, head.clock, base);
-    apply(n, rule, spans, marks, rows);
-    Ok(head.clock.played(base))
-}
-
-// `reset`
-pub fn reset(
-    head: Playhead,
-    spans: Spans<'_>,
-    marks: &mut [bool],
-    rows: &mut Rows<'_>,
-) -> Result<Clock, Refusal>
-    ensures { MovesInPlace head spans.entry marks Reset result rows }
-{
-    let n = head.entries(spans, marks.len());
-    rows.check(n)?;
-    apply(n, Rule::Clear, spans, marks, rows);
-    Ok(head.clock.cleared())
-}
-
-// `seek`: a share of the run, or of the base where the run is not finite.
-pub fn seek(
-    head: Playhead,
-    to: Share,
-    spans: Spans<'_>,
-    marks: &mut [bool],
-    rows: &mut Rows<'_>,
-) -> Result<Clock, Refusal>
-    ensures { MovesInPlace head spans.entry marks (Seek to.0) result rows }
-{
-    let n = head.entries(spans, marks.len());
-    rows.check(n)?;
-    let base = completions::base(n, spans);
-    let total = steps::run_of(head.looping, base);
-    let elapsed = clock::seek_to(total, clock::share_in(base, total, to.0));
-    let rule = Rule::Sync(steps::local_time(head.looping, base, elapsed));
-    apply(n, rule, spans, marks, rows);
-    Ok(head.clock.sought(total, elapsed))
-}
-
-// `seek_abs`. A body of its own: a common middle of the seeks is not built in, and was slower (docs/DECISIONS.md).
-pub fn seek_abs(
-    head: Playhead,
-    to: Secs,
-    spans: Spans<'_>,
-    marks: &mut [bool],
-    rows: &mut Rows<'_>,
-) -> Result<Clock, Refusal>
-    ensures { MovesInPlace head spans.entry marks (SeekAbs to.0) result rows }
-{
-    let n = head.entries(spans, marks.len());
-    rows.check(n)?;
-    let base = completions::base(n, spans);
-    let total = steps::run_of(head.looping, base);
-    let elapsed = clock::seek_to(total, to.0);
-    let rule = Rule::Sync(steps::local_time(head.looping, base, elapsed));
-    apply(n, rule, spans, marks, rows);
-    Ok(head.clock.sought(total, elapsed))
-}
-
-// The answer of an update that does not play: it still runs, but where it is Completed.
-fn resting(before: Clock) -> Updated
-    ensures { (answer_of result ≡ resting_in before) × (result.clock ≡ before) }
-{
-    Updated {
-        running: !before.state.is_completed(),
-        completed: false,
-        listed: 0,
-        clock: before.kept(),
+impl Player<'_, '_> {
+    // How the first n entries play: the loop mode and the base.
+    fn run(&self, n: usize) -> Run
+        ensures { (result.mode ≡ self.now.head.looping) × (result.base ≡ foldl max_f zero_f (first_ends n self.now.spans)) }
+    {
+        Run {
+            mode: self.head.looping,
+            base: completions::base(self.spans.first(n)),
+        }
     }
-}
 
-// The answer of an update from this clock that comes to `to`.
-fn reached(before: Clock, to: Reach, listed: usize) -> Updated
-    ensures { (answer_of result ≡ reached_from before to.ended listed) × (result.clock ≡ advanced_clock before to.elapsed to.ended) }
-{
-    Updated {
-        running: !to.ended,
-        completed: before.fires(to.ended),
-        listed,
-        clock: before.advanced(to.elapsed, to.ended),
+    // `play`
+    pub fn play(&mut self, rows: &mut Rows<'_>) -> Result<(), Refusal>
+        ensures { MovesInPlace self.old Play result self.new rows.old rows.new }
+    {
+        let n = self.head.entries(self.spans, self.marks.len());
+        rows.check(n)?;
+        let run = self.run(n);
+        apply(
+            n,
+            self.head.clock.play_rule(run),
+            self.spans,
+            self.marks,
+            rows,
+        );
+        self.head = self.head.with_clock(self.head.clock.played(run.base));
+        Ok(())
     }
-}
 
-// The answer of an update that does not go on from this clock: it is at rest, or has nothing to play, which ends the run.
-fn stayed(before: Clock) -> Updated
-    ensures { (answer_of result ≡ stayed_in before) × (result.clock ≡ stayed_clock before) }
-{
-    if before.state.is_playing() {
-        let to = Reach {
-            elapsed: before.elapsed,
-            ended: true,
+    // `reset`
+    pub fn reset(&mut self, rows: &mut Rows<'_>) -> Result<(), Refusal>
+        ensures { MovesInPlace self.old Reset result self.new rows.old rows.new }
+    {
+        let n = self.head.entries(self.spans, self.marks.len());
+        rows.check(n)?;
+        apply(n, Rule::Clear, self.spans, self.marks, rows);
+        self.head = self.head.with_clock(self.head.clock.cleared());
+        Ok(())
+    }
+
+    // `seek`: a share of the run, or of the base where the run is not finite.
+    pub fn seek(&mut self, to: Share, rows: &mut Rows<'_>) -> Result<(), Refusal>
+        ensures { MovesInPlace self.old (Seek to.0) result self.new rows.old rows.new }
+    {
+        let n = self.head.entries(self.spans, self.marks.len());
+        rows.check(n)?;
+        let run = self.run(n);
+        let total = run.total();
+        let elapsed = clock::seek_to(total, clock::share_in(run, to.0));
+        apply(
+            n,
+            Rule::Sync(run.local_time(elapsed)),
+            self.spans,
+            self.marks,
+            rows,
+        );
+        self.head = self.head.with_clock(self.head.clock.sought(total, elapsed));
+        Ok(())
+    }
+
+    // `seek_abs`. A body of its own: a common middle of the seeks is called from two places, so it is not built in, and costs 8 to 11 ns
+    // (docs/DECISIONS.md).
+    pub fn seek_abs(&mut self, to: Secs, rows: &mut Rows<'_>) -> Result<(), Refusal>
+        ensures { MovesInPlace self.old (SeekAbs to.0) result self.new rows.old rows.new }
+    {
+        let n = self.head.entries(self.spans, self.marks.len());
+        rows.check(n)?;
+        let run = self.run(n);
+        let total = run.total();
+        let elapsed = clock::seek_to(total, to.0);
+        apply(
+            n,
+            Rule::Sync(run.local_time(elapsed)),
+            self.spans,
+            self.marks,
+            rows,
+        );
+        self.head = self.head.with_clock(self.head.clock.sought(total, elapsed));
+        Ok(())
+    }
+
+    // `update`, with each leaf's reply. The list takes the numbers of the entries that completed.
+    pub fn update(
+        &mut self,
+        dt: f32,
+        replies: &[u8],
+        list: &mut [u8],
+        rows: &mut Rows<'_>,
+    ) -> Result<Updated, Refusal>
+        ensures { UpdatesInPlace self.old dt replies.now result self.new list.old list.new rows.old rows.new }
+    {
+        let n = self.head.entries(self.spans, self.marks.len());
+        rows.check(n)?;
+        check_replies(replies, n)?;
+        let run = self.run(n);
+        if !self.head.clock.advances(run.base) {
+            apply(n, Rule::Keep, self.spans, self.marks, rows);
+            return Ok(self.stay());
+        }
+        let next = self.head.clock.next_elapsed(dt);
+        if tween::loop_mode::is_once(run.mode) {
+            return self.tick_to(n, run.base, next, replies, list, rows);
+        }
+        self.sync_to(n, run, next, list, rows)
+    }
+
+    // An update in Once: a tick within the base, if the list has room for the entries that it completes.
+    fn tick_to(
+        &mut self,
+        n: usize,
+        base: f32,
+        next: f32,
+        replies: &[u8],
+        list: &mut [u8],
+        rows: &mut Rows<'_>,
+    ) -> Result<Updated, Refusal>
+        requires { (n ≡ length (live (playing_in self.old))) × Writes n rows.old × (n ≤ length replies.now) }
+        ensures { UpdatesTo self.old (ticked_to (playing_in self.old) base next replies.now) result self.new list.old list.new rows.old rows.new }
+    {
+        let to = clock::reach_within(base, next);
+        let step = Step {
+            prev: float32::min(self.head.clock.elapsed, base),
+            next: to.elapsed,
         };
-        return reached(before, to, 0);
+        let marks = &mut *self.marks;
+        if outnumber(n, step, self.spans, marks, replies, list.len()) {
+            return Err(Refusal::ListTooShort);
+        }
+        let listed = tick(n, step, self.spans, marks, replies, list, rows);
+        Ok(self.reach(to, listed))
     }
-    resting(before)
-}
 
-// An update in Once: a tick within the base, if the list has room for the entries that it completes.
-fn ticked(
-    head: Playhead,
-    n: usize,
-    base: f32,
-    next: f32,
-    spans: Spans<'_>,
-    marks: &mut [bool],
-    replies: &[u8],
-    list: &mut [u8],
-    rows: &mut Rows<'_>,
-) -> Result<Updated, Refusal>
-    requires { (n ≡ length (live (track_of head spans.starts.now spans.durations.now marks.old))) × Writes n rows.old × (n ≤ length replies.now) }
-    ensures { UpdatesTo head spans.entry marks (ticked_to (lent_track head spans.entry (seen marks)) base next replies.now) result list rows }
-{
-    let from = float32::min(head.clock.elapsed, base);
-    let to = clock::reach_within(base, next);
-    if outnumber(n, from, to.elapsed, spans, marks, replies, list.len()) {
-        return Err(Refusal::ListTooShort);
+    // An update in another mode: the completions are listed, if the list has room for them, and every entry is synchronised.
+    fn sync_to(
+        &mut self,
+        n: usize,
+        run: Run,
+        next: f32,
+        list: &mut [u8],
+        rows: &mut Rows<'_>,
+    ) -> Result<Updated, Refusal>
+        requires { (n ≡ length (live (playing_in self.old))) × Writes n rows.old × (run.mode ≡ self.old.head.looping) × (run.base ≡ track_base (playing_in self.old)) }
+        ensures { UpdatesTo self.old (synced_to (playing_in self.old) run.base next) result self.new list.old list.new rows.old rows.new }
+    {
+        let to = clock::reach_of(run, next);
+        let step = Step {
+            prev: self.head.clock.elapsed,
+            next,
+        };
+        let found = completions::between(self.spans.first(n), run, step, list);
+        let listed = found.ok_or(Refusal::ListTooShort)?;
+        apply(
+            n,
+            Rule::Sync(run.local_time(to.elapsed)),
+            self.spans,
+            self.marks,
+            rows,
+        );
+        Ok(self.reach(to, listed))
     }
-    let listed = tick(n, from, to.elapsed, spans, marks, replies, list, rows);
-    Ok(reached(head.clock, to, listed))
-}
 
-// An update in another mode: the completions are listed, if the list has room for them, and every entry is synchronised.
-fn looped(
-    head: Playhead,
-    n: usize,
-    base: f32,
-    next: f32,
-    spans: Spans<'_>,
-    marks: &mut [bool],
-    list: &mut [u8],
-    rows: &mut Rows<'_>,
-) -> Result<Updated, Refusal>
-    requires { (n ≡ length (live (track_of head spans.starts.now spans.durations.now marks.old))) × Writes n rows.old × (base ≡ track_base (track_of head spans.starts.now spans.durations.now marks.old)) }
-    ensures { UpdatesTo head spans.entry marks (synced_to (lent_track head spans.entry (seen marks)) base next) result list rows }
-{
-    let to = clock::reach_of(head.looping, base, next);
-    let found = completions::between(n, spans, base, head.looping, head.clock.elapsed, next, list);
-    let listed = found.ok_or(Refusal::ListTooShort)?;
-    let rule = Rule::Sync(steps::local_time(head.looping, base, to.elapsed));
-    apply(n, rule, spans, marks, rows);
-    Ok(reached(head.clock, to, listed))
-}
+    // Sets the clock of an update that comes to `to`, and answers it.
+    fn reach(&mut self, to: Reach, listed: usize) -> Updated
+        ensures { (answer_of result ≡ reached_from self.old.head.clock to.ended listed) × (self.new ≡ at_clock self.old (advanced_clock self.old.head.clock to.elapsed to.ended)) }
+    {
+        let before = self.head.clock;
+        self.head = self.head.with_clock(before.advanced(to));
+        Updated {
+            running: !to.ended,
+            completed: before.fires(to.ended),
+            listed,
+        }
+    }
 
-// `update`, with each leaf's reply. The list takes the numbers of the entries that completed.
-pub fn update(
-    head: Playhead,
-    dt: f32,
-    spans: Spans<'_>,
-    marks: &mut [bool],
-    replies: &[u8],
-    list: &mut [u8],
-    rows: &mut Rows<'_>,
-) -> Result<Updated, Refusal>
-    ensures { UpdatesInPlace head spans.entry marks dt replies (answer_in result) (clock_of head result) list rows }
-{
-    let n = head.entries(spans, marks.len());
-    rows.check(n)?;
-    check_replies(replies, n)?;
-    let base = completions::base(n, spans);
-    if !head.clock.advances(base) {
-        apply(n, Rule::Keep, spans, marks, rows);
-        return Ok(stayed(head.clock));
+    // Answers an update that does not go on: it is at rest, or has nothing to play, which ends the run.
+    fn stay(&mut self) -> Updated
+        ensures { (answer_of result ≡ stayed_in self.old.head.clock) × (self.new ≡ at_clock self.old (stayed_clock self.old.head.clock)) }
+    {
+        let before = self.head.clock;
+        if before.state.is_playing() {
+            let to = Reach {
+                elapsed: before.elapsed,
+                ended: true,
+            };
+            return self.reach(to, 0);
+        }
+        Updated {
+            running: !before.state.is_completed(),
+            completed: false,
+            listed: 0,
+        }
     }
-    let next = head.clock.next_elapsed(dt);
-    if tween::loop_mode::is_once(head.looping) {
-        return ticked(head, n, base, next, spans, marks, replies, list, rows);
-    }
-    looped(head, n, base, next, spans, marks, list, rows)
-}
 
-// The rows of an update of the first n entries alone, with marks that are not kept.
-fn show(
-    head: Playhead,
-    n: usize,
-    dt: f32,
-    spans: Spans<'_>,
-    marks: &mut [bool],
-    rows: &mut Rows<'_>,
-)
-    requires { (n ≡ length (live (track_of (counted_at head n) spans.starts.now spans.durations.now marks.old))) × Writes n rows.old }
-    ensures { SentIn (updated (lent_track (counted_at head n) spans.entry (seen marks)) dt []).rows rows }
-{
-    let base = completions::base(n, spans);
-    let next = head.clock.next_elapsed(dt);
-    let to = clock::reach_of(head.looping, base, next);
-    let advances = head.clock.advances(base);
-    let once = tween::loop_mode::is_once(head.looping);
-    let ticks = advances & once;
-    if ticks {
-        let from = float32::min(head.clock.elapsed, base);
-        let replies = [1u8; MOST_ENTRIES];
-        let mut list = [0u8; MOST_ENTRIES];
-        tick(n, from, to.elapsed, spans, marks, &replies, &mut list, rows);
-        return;
+    // The rows of an update of all n entries, with marks that are not kept.
+    fn show(&mut self, n: usize, dt: f32, rows: &mut Rows<'_>)
+        requires { (n ≡ length (live (playing_in self.old))) × Writes n rows.old }
+        ensures { SentIn (updated (playing_in self.old) dt []).rows rows.old rows.new }
+    {
+        let run = self.run(n);
+        let next = self.head.clock.next_elapsed(dt);
+        let to = clock::reach_of(run, next);
+        let advances = self.head.clock.advances(run.base);
+        let once = tween::loop_mode::is_once(run.mode);
+        let ticks = advances & once;
+        if ticks {
+            let step = Step {
+                prev: float32::min(self.head.clock.elapsed, run.base),
+                next: to.elapsed,
+            };
+            let replies = [1u8; MOST_ENTRIES];
+            let mut list = [0u8; MOST_ENTRIES];
+            tick(n, step, self.spans, self.marks, &replies, &mut list, rows);
+            return;
+        }
+        let rule = self.head.clock.advance_rule(run, to.elapsed);
+        apply(n, rule, self.spans, self.marks, rows);
     }
-    let rule = clock::advance_rule(advances, head.looping, base, to.elapsed);
-    apply(n, rule, spans, marks, rows);
 }
 
 // The rows that `update` with room enough would write: it goes over a copy of the marks. It refuses by 3 only.
@@ -247,12 +263,18 @@ pub fn preview(
     marks: &[bool],
     rows: &mut Rows<'_>,
 ) -> Result<(), Refusal>
-    ensures { ShowsInPlace head spans.entry marks dt result rows }
+    ensures { ShowsInPlace head spans.entry marks.now dt result rows.old rows.new }
 {
     let n = head.entries(spans, marks.len());
     rows.check(n)?;
     let mut copy = [false; MOST_ENTRIES];
     copy[..n].copy_from_slice(&marks[..n]);
-    show(head, n, dt, spans, &mut copy, rows);
+    let head = Playhead { count: n, ..head };
+    let mut player = Player {
+        head,
+        spans,
+        marks: &mut copy,
+    };
+    player.show(n, dt, rows);
     Ok(())
 }

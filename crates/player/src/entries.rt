@@ -6,13 +6,10 @@ ghost use Rattle.steps.specs.Rows.{ruled};
 ghost use Rattle.steps.specs.Slices.{over};
 ghost use Rattle.completions.specs.Completions.{keep};
 ghost use Rattle.completions.specs.Columns.{most_entries};
-ghost use Rattle.track.specs.Columns.{first_of};
-ghost use Rattle.track.specs.Updates.{ticks, newly_done};
-ghost use Rattle.track.specs.Answers.{seen};
-ghost use Rattle.player.specs.Loops.{lent_first, lent_ticks, lent_done, entry_at, Reads, Writes, SentTo};
+ghost use Rattle.player.specs.Loops.{first_in, ticks_in, done_in, entry_at, Reads, Writes, SentTo};
 
 use completions::Spans;
-use steps::{Entry, Rule, Stepped};
+use steps::{Entry, Rule, Step, Stepped};
 use track::rows::Rows;
 
 // Entry i of the columns.
@@ -30,14 +27,14 @@ fn entry_at(i: usize, spans: Spans<'_>, marks: &[bool]) -> Entry
 // To each of n entries what the rule sends, and its mark.
 pub(crate) fn apply(n: usize, rule: Rule, spans: Spans<'_>, marks: &mut [bool], rows: &mut Rows<'_>)
     requires { Reads n spans marks.old × Writes n rows.old }
-    ensures { SentTo (map (ruled rule) (lent_first n spans.entry (seen marks))) marks rows }
+    ensures { SentTo (map (ruled rule) (first_in n spans.entry marks.old)) marks.old marks.new rows.old rows.new }
 {
     // Taken out of the struct, which would be read anew in each turn: some 19 instructions an entry.
     let kinds = &mut *rows.kinds;
     let amounts = &mut *rows.amounts;
     let places = &mut *rows.places;
     for i in 0..n {
-        let s = steps::step_entry(rule, entry_at(i, spans, marks));
+        let s = rule.sent_to(entry_at(i, spans, marks));
         kinds[i] = s.row.kind;
         amounts[i] = s.row.amount;
         places[i] = s.row.place;
@@ -53,21 +50,14 @@ fn newly_done(e: Entry, s: Stepped) -> bool
 }
 
 // How many of n entries a tick would list.
-fn count_done(
-    n: usize,
-    prev: f32,
-    next: f32,
-    spans: Spans<'_>,
-    marks: &[bool],
-    replies: &[u8],
-) -> usize
+fn count_done(n: usize, step: Step, spans: Spans<'_>, marks: &[bool], replies: &[u8]) -> usize
     requires { Reads n spans marks.now × (n ≤ length replies.now) }
-    ensures { result ≡ length (lent_done n prev next spans.entry marks replies) }
+    ensures { result ≡ length (done_in n step spans.entry marks.now replies.now) }
 {
     let mut k = 0;
     for i in 0..n {
         let e = entry_at(i, spans, marks);
-        if newly_done(e, steps::tick_entry(prev, next, e, replies[i])) {
+        if newly_done(e, e.ticked(step, replies[i])) {
             k += 1;
         }
     }
@@ -77,17 +67,16 @@ fn count_done(
 // Whether they outnumber the places of a list. They are at most n.
 pub(crate) fn outnumber(
     n: usize,
-    prev: f32,
-    next: f32,
+    step: Step,
     spans: Spans<'_>,
     marks: &[bool],
     replies: &[u8],
     room: usize,
 ) -> bool
     requires { Reads n spans marks.now × (n ≤ length replies.now) }
-    ensures { result ≡ ltb room (length (lent_done n prev next spans.entry marks replies)) }
+    ensures { result ≡ ltb room (length (done_in n step spans.entry marks.now replies.now)) }
 {
-    room < n && room < count_done(n, prev, next, spans, marks, replies)
+    room < n && room < count_done(n, step, spans, marks, replies)
 }
 
 // Marks the entry i, and lists it at `at`, if it is newly done; says where the next one goes. Most marks stay.
@@ -109,8 +98,7 @@ fn note(marks: &mut [bool], list: &mut [u8], at: usize, i: usize, was: bool, don
 // `tick_forward`: to each of n entries its row and its mark; the numbers of those newly done go into the list.
 pub(crate) fn tick(
     n: usize,
-    prev: f32,
-    next: f32,
+    step: Step,
     spans: Spans<'_>,
     marks: &mut [bool],
     replies: &[u8],
@@ -118,9 +106,9 @@ pub(crate) fn tick(
     rows: &mut Rows<'_>,
 ) -> usize
     requires in_bounds { Reads n spans marks.old × Writes n rows.old × (n ≤ most_entries) × (n ≤ length replies.now) }
-    requires room { length (newly_done 0 (first_of n spans.starts.now spans.durations.now marks.old) (ticks prev next (first_of n spans.starts.now spans.durations.now marks.old) replies.now)) ≤ length list.old }
-    ensures value { (result ≡ length (lent_done n prev next spans.entry (seen marks) replies)) × (list.new ≡ over (lent_done n prev next spans.entry (seen marks) replies) list.old) }
-    ensures sent_to { SentTo (lent_ticks n prev next spans.entry (seen marks) replies) marks rows }
+    requires room { length (done_in n step spans marks.old replies.now) ≤ length list.old }
+    ensures value { (result ≡ length (done_in n step spans.entry marks.old replies.now)) × (list.new ≡ over (done_in n step spans.entry marks.old replies.now) list.old) }
+    ensures sent_to { SentTo (ticks_in n step spans.entry marks.old replies.now) marks.old marks.new rows.old rows.new }
 {
     // Taken out of the struct, which would be read anew in each turn: some 19 instructions an entry.
     let kinds = &mut *rows.kinds;
@@ -129,7 +117,7 @@ pub(crate) fn tick(
     let mut listed = 0;
     for i in 0..n {
         let e = entry_at(i, spans, marks);
-        let s = steps::tick_entry(prev, next, e, replies[i]);
+        let s = e.ticked(step, replies[i]);
         kinds[i] = s.row.kind;
         amounts[i] = s.row.amount;
         places[i] = s.row.place;

@@ -11,7 +11,7 @@ pub enum AnimationKind {
     Group,
 }
 
-// The coarse playback state.
+// The coarse playback state. The Rust has both this and `TimelineState`.
 #[derive(Clone, Copy, Debug, PartialEq, Eq)]
 pub enum PlaybackState {
     Idle,
@@ -31,14 +31,16 @@ pub struct AnimationIntrospection {
 }
 
 // The coarse state of a timeline.
-pub fn playback_state(state: TimelineState) -> PlaybackState
-    ensures { result ≡ playback_state state }
-{
-    match state {
-        TimelineState::Idle => PlaybackState::Idle,
-        TimelineState::Playing => PlaybackState::Playing,
-        TimelineState::Paused => PlaybackState::Paused,
-        TimelineState::Completed => PlaybackState::Complete,
+impl From<TimelineState> for PlaybackState {
+    ghost from_gives = { λ state coarse. coarse ≡ playback_state state };
+
+    fn from(state: TimelineState) -> PlaybackState {
+        match state {
+            TimelineState::Idle => PlaybackState::Idle,
+            TimelineState::Playing => PlaybackState::Playing,
+            TimelineState::Paused => PlaybackState::Paused,
+            TimelineState::Completed => PlaybackState::Complete,
+        }
     }
 }
 

@@ -1,32 +1,28 @@
-// The builders.
-use case_io::text::Sink;
+// The builders: what they build is what plays next.
 use group::group::{AnimationGroup, GroupBuilt};
 use group::item::Built;
 use group::sequence::Sequence;
 use group::stagger::stagger;
-use refusal::{ACCEPTED, Refusal};
+use refusal::{ACCEPTED, Refusal, number_if, number_in};
 use trace_places::run::Run;
-use trace_read::{Cursor, ITEMS, Item, ROWS};
+use trace_read::{Builder, Cursor, Cut, Item, ROWS};
 
-// Calls 16 to 19: stagger, and a group's parallel, sequence and stagger.
-pub(crate) fn building(sink: &mut Sink, cursor: &mut Cursor<'_>, run: &mut Run) -> Option<()> {
+// Items of which there are more than a byte counts.
+const ITEMS: usize = 256;
+
+// Stagger, and a group's parallel, sequence and stagger.
+pub(crate) fn building(run: &mut Run<'_>, cursor: &mut Cursor<'_>, how: Builder) -> Result<(), Cut> {
     let mut room = [0.0; ROWS];
-    let built = match run.byte {
-        16 => {
-            let delay = cursor.float()?;
-            stagger(cursor.durations(&mut room)?, delay)
-        }
-        17 => timeline_of(AnimationGroup::parallel(cursor.durations(&mut room)?)),
-        18 => timeline_of(AnimationGroup::sequence(cursor.durations(&mut room)?)),
-        _ => {
-            let pattern = cursor.pattern()?;
-            timeline_of(AnimationGroup::stagger(cursor.durations(&mut room)?, pattern))
-        }
+    let durations = cursor.durations(&mut room)?;
+    let built = match how {
+        Builder::Stagger(delay) => stagger(durations, delay),
+        Builder::GroupParallel => timeline_of(AnimationGroup::parallel(durations)),
+        Builder::GroupSequence => timeline_of(AnimationGroup::sequence(durations)),
+        Builder::GroupStagger(pattern) => timeline_of(AnimationGroup::stagger(durations, pattern)),
     };
-    run.timeline = built.timeline;
-    run.line(sink, built.refusal.map_or(ACCEPTED, |r| r.number()));
-    trace_lines::entries(sink, &run.timeline);
-    Some(())
+    run.replace(built.timeline, number_if(built.refusal));
+    trace_lines::entries(run.sink, &run.timeline);
+    Ok(())
 }
 
 fn timeline_of(built: GroupBuilt) -> Built {
@@ -36,22 +32,20 @@ fn timeline_of(built: GroupBuilt) -> Built {
     }
 }
 
-// Call 20: sequence. Of each item its refusal is shown, and the cursor after it.
-pub(crate) fn sequencing(sink: &mut Sink, cursor: &mut Cursor<'_>, run: &mut Run) -> Option<()> {
-    let n = usize::from(cursor.byte()?);
+// Sequence, of n items. Of each its refusal is shown, and the cursor after it: they are kept, since the call's line comes first.
+pub(crate) fn sequencing(run: &mut Run<'_>, cursor: &mut Cursor<'_>, n: u8) -> Result<(), Cut> {
     let mut sequence = Sequence::new();
     let mut items = [(0, 0.0); ITEMS];
+    let n = usize::from(n);
     for left in items.iter_mut().take(n) {
         let answer = add(sequence, cursor.item()?);
-        if let Ok(longer) = answer {
-            sequence = longer;
-        }
-        *left = (refusal::number_in(&answer), sequence.cursor());
+        sequence = answer.unwrap_or(sequence);
+        *left = (number_in(&answer), sequence.cursor());
     }
-    run.answered(sink, Ok(sequence.build()));
-    trace_lines::entries(sink, &run.timeline);
-    trace_lines::items(sink, &items[..n]);
-    Some(())
+    run.replace(sequence.build(), ACCEPTED);
+    trace_lines::entries(run.sink, &run.timeline);
+    trace_lines::items(run.sink, &items[..n]);
+    Ok(())
 }
 
 fn add(sequence: Sequence, item: Item<'_>) -> Result<Sequence, Refusal> {

@@ -1,23 +1,23 @@
-// Calls 12 and 13: what a timeline or the group around it shows of itself.
+// What a timeline or the group around it shows of itself.
 use case_io::text::Sink;
 use group::group::AnimationGroup;
 use refusal::ACCEPTED;
 use timeline::introspection::{AnimationIntrospection, AnimationKind, PlaybackState};
 use trace_places::run::Run;
 
-// Call 12: introspect.
-pub(crate) fn timeline(sink: &mut Sink, run: &Run) {
-    run.line(sink, ACCEPTED);
-    line(sink, run.timeline.introspect());
+pub(crate) fn timeline(run: &mut Run<'_>) {
+    shown(run, run.timeline.introspect());
 }
 
-// Call 13: introspect of the group around the timeline.
-pub(crate) fn group(sink: &mut Sink, run: &Run) {
-    run.line(sink, ACCEPTED);
-    line(
-        sink,
-        AnimationGroup::from_timeline(run.timeline).introspect(),
-    );
+// Of the group around the timeline.
+pub(crate) fn group(run: &mut Run<'_>) {
+    let group = AnimationGroup::from_timeline(run.timeline);
+    shown(run, group.introspect());
+}
+
+fn shown(run: &mut Run<'_>, shown: AnimationIntrospection) {
+    run.line(ACCEPTED);
+    line(run.sink, shown);
 }
 
 // `  introspect kind progress elapsed duration state`
@@ -34,6 +34,7 @@ fn line(sink: &mut Sink, shown: AnimationIntrospection) {
     sink.byte(b'\n');
 }
 
+// The letters are this program's alone: the enums are the Rust's, and have no discriminants.
 fn kind_letter(kind: AnimationKind) -> u8 {
     match kind {
         AnimationKind::Timeline => b'T',

@@ -1,15 +1,14 @@
-// Call 14: the reverse of the group around the timeline.
-use case_io::text::Sink;
+// The reverse of the group around the timeline.
 use group::group::AnimationGroup;
+use refusal::number_in;
 use trace_lines::lent::LentRows;
 use trace_places::run::Run;
-use trace_read::Cursor;
+use trace_read::Room;
 
-pub(crate) fn reversing(sink: &mut Sink, cursor: &mut Cursor<'_>, run: &mut Run) -> Option<()> {
-    let mut rows = LentRows::new(cursor.room()?);
+pub(crate) fn reversing(run: &mut Run<'_>, room: Room) {
+    let mut rows = LentRows::new(room);
     let group = AnimationGroup::from_timeline(run.timeline);
     let answer = group.reverse(&mut rows.lend());
-    run.answered(sink, answer.map(|group| group.timeline()));
-    trace_lines::rows(sink, &rows);
-    Some(())
+    run.replace(answer.unwrap_or(group).timeline(), number_in(&answer));
+    trace_lines::rows(run.sink, &rows);
 }

@@ -1,120 +1,100 @@
-// The calls that steer a timeline or add to it: the operands are read, the call is made, and its lines are printed.
-use case_io::text::Sink;
-use refusal::{ACCEPTED, Refusal};
+// The calls that steer a timeline or add to it, and the delay: each is made, and its lines are printed.
+use clock::Clock;
+use refusal::{ACCEPTED, Refusal, number_in};
 use timeline::timeline::{At, Timeline};
 use trace_places::run::Run;
-use trace_read::{Cursor, Placement};
+use trace_read::{Added, Placement};
+use track::track::Playhead;
+use tween::{Loop, StaggerPattern};
 
-// Makes the call that the run is at; one that is none of these, or whose operands are cut, is not made.
-pub fn make(sink: &mut Sink, cursor: &mut Cursor<'_>, run: &mut Run) -> Option<()> {
-    match run.byte {
-        1 => pausing(run),
-        2 => resuming(run),
-        7 => scaling(run, cursor.float()?),
-        8 | 9 => return adding(sink, cursor, run),
-        10 => {
-            let mode = cursor.looping()?;
-            run.timeline = run.timeline.looping(mode);
-            run.place.head = run.place.head.looping(mode);
-        }
-        15 => return delaying(sink, cursor, run),
-        _ => return None,
-    }
-    run.line(sink, ACCEPTED);
-    run.compare_clock(sink);
-    Some(())
+pub fn pause(run: &mut Run<'_>) {
+    steered(run, lent_clock::pause, Timeline::pause, Playhead::pause);
 }
 
-// Calls of pause, resume and the scale with an odd number are made on a clock that is lent.
-fn lends(run: &Run) -> bool {
-    run.number % 2 == 1
+pub fn resume(run: &mut Run<'_>) {
+    steered(run, lent_clock::resume, Timeline::resume, Playhead::resume);
 }
 
-// Call 1: pause.
-fn pausing(run: &mut Run) {
-    if lends(run) {
-        lent_clock::pause(&mut run.timeline.track.clock);
+pub fn set_time_scale(run: &mut Run<'_>, scale: f32) {
+    steered(
+        run,
+        |clock| lent_clock::set_time_scale(clock, scale),
+        |t| t.set_time_scale(scale),
+        |head| head.set_time_scale(scale),
+    );
+}
+
+// A call that steers what plays: on a timeline by value, or with an odd number on a clock that is lent; and on a playhead.
+fn steered<L, V, P>(run: &mut Run<'_>, lent: L, by_value: V, in_place: P)
+where
+    L: FnOnce(&mut Clock),
+    V: FnOnce(Timeline) -> Timeline,
+    P: FnOnce(Playhead) -> Playhead,
+    requires on_lent { L.IsAlwaysCallable lent }
+    requires on_value { V.IsAlwaysCallable by_value }
+    requires on_head { P.IsAlwaysCallable in_place }
+{
+    if run.number % 2 == 1 {
+        lent(&mut run.timeline.track.clock);
     } else {
-        run.timeline = run.timeline.pause();
+        run.timeline = by_value(run.timeline);
     }
-    run.place.head = run.place.head.pause();
+    run.place.head = in_place(run.place.head);
+    run.line(ACCEPTED);
+    run.compare_clock();
 }
 
-// Call 2: resume.
-fn resuming(run: &mut Run) {
-    if lends(run) {
-        lent_clock::resume(&mut run.timeline.track.clock);
-    } else {
-        run.timeline = run.timeline.resume();
-    }
-    run.place.head = run.place.head.resume();
+pub fn looping(run: &mut Run<'_>, mode: Loop) {
+    run.timeline = run.timeline.looping(mode);
+    run.place.head = run.place.head.looping(mode);
+    run.line(ACCEPTED);
+    run.compare_clock();
 }
 
-// Call 7: set_time_scale.
-fn scaling(run: &mut Run, scale: f32) {
-    if lends(run) {
-        lent_clock::set_time_scale(&mut run.timeline.track.clock, scale);
-    } else {
-        run.timeline = run.timeline.set_time_scale(scale);
-    }
-    run.place.head = run.place.head.set_time_scale(scale);
+// A label's text is looked for by the call itself.
+pub fn add(run: &mut Run<'_>, entry: Added<'_>) {
+    let t = run.timeline;
+    let answer = match entry.at {
+        Placement::Label(target) => t.add_at_label(entry.label, target, entry.duration),
+        placement => t.add(entry.label, at(&t, placement), entry.duration),
+    };
+    added(run, answer);
 }
 
-// Calls 8 and 9: add and add_boxed_with_duration.
-fn adding(sink: &mut Sink, cursor: &mut Cursor<'_>, run: &mut Run) -> Option<()> {
-    let label = cursor.label()?;
-    let placement = cursor.placement()?;
-    let duration = cursor.float()?;
-    let answer = add(run.byte, run.timeline, label, placement, duration);
-    run.answered(sink, answer);
-    trace_lines::entries(sink, &run.timeline);
-    Some(())
+pub fn add_boxed(run: &mut Run<'_>, entry: Added<'_>) {
+    let t = run.timeline;
+    let at = at(&t, entry.at);
+    added(run, t.add_boxed_with_duration(entry.label, at, entry.duration));
 }
 
-fn add(
-    byte: u8,
-    t: Timeline,
-    label: &[u8],
-    placement: Placement<'_>,
-    duration: f32,
-) -> Result<Timeline, Refusal> {
-    let at = match placement {
+fn added(run: &mut Run<'_>, answer: Result<Timeline, Refusal>) {
+    run.replace(answer.unwrap_or(run.timeline), number_in(&answer));
+    trace_lines::entries(run.sink, &run.timeline);
+}
+
+// The placement in a timeline.
+fn at(t: &Timeline, placement: Placement<'_>) -> At {
+    match placement {
         Placement::Absolute(secs) => At::Absolute(secs),
         Placement::Start => At::Start,
         Placement::End => At::End,
-        Placement::Label(target) => {
-            if byte == 8 {
-                return t.add_at_label(label, target, duration);
-            }
-            At::Label(last_labeled(&t, target))
-        }
+        Placement::Label(target) => At::Label(last_labeled(t, target)),
         Placement::Offset(secs) => At::Offset(secs),
-    };
-    if byte == 8 {
-        t.add(label, at, duration)
-    } else {
-        t.add_boxed_with_duration(label, at, duration)
     }
 }
 
 // The last entry with this label, or the count.
 fn last_labeled(t: &Timeline, target: &[u8]) -> usize {
     let count = t.entry_count();
-    let mut last = count;
-    for (i, label) in t.labels.iter().take(count).enumerate() {
-        if label.has_text(target) {
-            last = i;
-        }
-    }
-    last
+    let mut labels = t.labels.iter().take(count);
+    labels
+        .rposition(|label| label.has_text(target))
+        .unwrap_or(count)
 }
 
-// Call 15: delay. A refused one shows 0.
-fn delaying(sink: &mut Sink, cursor: &mut Cursor<'_>, run: &mut Run) -> Option<()> {
-    let pattern = cursor.pattern()?;
-    let index = cursor.word()?;
+// A refused delay shows 0.
+pub fn delay(run: &mut Run<'_>, pattern: StaggerPattern, index: u32) {
     let answer = pattern.delay(index);
-    run.line(sink, refusal::number_in(&answer));
-    trace_lines::delay(sink, answer.unwrap_or(0.0));
-    Some(())
+    run.line(number_in(&answer));
+    trace_lines::delay(run.sink, answer.unwrap_or(0.0));
 }

@@ -5,7 +5,7 @@ use player::engine;
 use refusal::Refusal;
 use timeline::timeline::{Timeline, Updated};
 use trace_lines::lent::same_float;
-use trace_read::ROWS;
+use trace_read::{Move, ROWS};
 use track::rows::Rows;
 use track::track::{Playhead, Secs, Share};
 
@@ -24,28 +24,16 @@ pub struct InPlace {
     marks: [bool; ROWS],
 }
 
-// A call that moves what plays.
-#[derive(Clone, Copy)]
-pub enum Move {
-    Play,
-    Reset,
-    Seek(f32),
-    SeekAbs(f32),
-    Preview(f32),
-}
-
-impl Move {
-    // The call on a timeline by value.
-    pub fn by_value(self, t: Timeline, rows: &mut Rows<'_>) -> Result<Timeline, Refusal> {
-        match self {
-            Move::Play => t.play(rows),
-            Move::Reset => t.reset(rows),
-            Move::Seek(to) => t.seek(Share(to), rows),
-            Move::SeekAbs(to) => t.seek_abs(Secs(to), rows),
-            Move::Preview(dt) => {
-                t.preview(dt, rows)?;
-                Ok(t)
-            }
+// A call that moves what plays, on a timeline by value.
+pub fn moved(t: Timeline, call: Move, rows: &mut Rows<'_>) -> Result<Timeline, Refusal> {
+    match call {
+        Move::Play => t.play(rows),
+        Move::Reset => t.reset(rows),
+        Move::Seek(to) => t.seek(Share(to), rows),
+        Move::SeekAbs(to) => t.seek_abs(Secs(to), rows),
+        Move::Preview(dt) => {
+            t.preview(dt, rows)?;
+            Ok(t)
         }
     }
 }

@@ -4,20 +4,23 @@ use case_io::text::Sink;
 use refusal::Refusal;
 use timeline::timeline::Timeline;
 
-// A script at a call: the call's number and its byte, a number as the script's format has it, and what the calls before it left, by value and in place.
+// A script at a call: where its lines are printed, the call's number and its byte, a number as the script's format has it, and what the calls
+// before it left, by value and in place.
 #[derive(Drop)]
-pub struct Run {
+pub struct Run<'s> {
+    pub sink: &'s mut Sink,
     pub number: usize,
     pub byte: u8,
     pub timeline: Timeline,
     pub place: InPlace,
 }
 
-impl Run {
+impl<'s> Run<'s> {
     // The empty timeline, by value and in place.
-    pub fn new() -> Run {
+    pub fn new(sink: &'s mut Sink) -> Run<'s> {
         let timeline = Timeline::new();
         Run {
+            sink,
             number: 0,
             byte: 0,
             timeline,
@@ -26,33 +29,40 @@ impl Run {
     }
 
     // The call by value gave this answer: a refused one leaves the timeline. Prints the line of the call.
-    pub fn answered(&mut self, sink: &mut Sink, answer: Result<Timeline, Refusal>) {
+    pub fn answered(&mut self, answer: Result<Timeline, Refusal>) {
         if let Ok(timeline) = answer {
             self.timeline = timeline;
         }
-        self.line(sink, refusal::number_in(&answer));
+        self.line(refusal::number_in(&answer));
+    }
+
+    // Another timeline plays from now on, and is laid out in place anew. Prints the line of the call.
+    pub fn replace(&mut self, timeline: Timeline, refusal: u8) {
+        self.timeline = timeline;
+        self.place = InPlace::of(&timeline);
+        self.line(refusal);
     }
 
     // Prints the line of the call.
-    pub fn line(&self, sink: &mut Sink, refusal: u8) {
-        trace_lines::call(sink, self.number, self.byte, refusal, &self.timeline);
+    pub fn line(&mut self, refusal: u8) {
+        trace_lines::call(self.sink, self.number, self.byte, refusal, &self.timeline);
     }
 
     // Writes that they differ, unless the call in place was the same, and left what the call by value left.
-    pub fn compare(&self, sink: &mut Sink, same: bool) {
+    pub fn compare(&mut self, same: bool) {
         if !same || !self.place.has_left(&self.timeline) {
-            differs(sink);
+            self.differs();
         }
     }
 
     // The same of a call after which only the clock can differ.
-    pub fn compare_clock(&self, sink: &mut Sink) {
+    pub fn compare_clock(&mut self) {
         if !self.place.has_clock(&self.timeline) {
-            differs(sink);
+            self.differs();
         }
     }
-}
 
-fn differs(sink: &mut Sink) {
-    sink.bytes(b"differs\n");
+    fn differs(&mut self) {
+        self.sink.bytes(b"differs\n");
+    }
 }

@@ -1,13 +1,14 @@
 -- What a call comes to, by its tests: refused, sent by a rule, at rest, or advanced. The laws that the engine cites.
 use Prim.Native.Nat.{ℕ, ◌≤◌}
 use mathlib.Core.Path.{◌≡◌, refl, sym, ap, subst, ◌∙◌}
-use mathlib.Core.Bool.{Bool, true, false, not, cond, ◌&&◌, ◌||◌, true≢false}
+use mathlib.Core.Bool.{Bool, true, false, not, cond, ◌&&◌, ◌||◌}
 use mathlib.Core.List.{List, [], map}
 use native.Mathlib.Omega.{arith}
 use borrow.Author.Tests.{not-true, not-false, ltb-false, leb-true, leb-false, lt-ltb, le-ltb}
 use lib.Dec.{ltb}
 use lib.ListN.{length, take}
 use lib.Ieee.{Float, eq}
+use Rattle.std.proofs.lemmas.Bool.{or_parts}
 use Rattle.float32.specs.Helpers.{zero_f, min_f}
 use Rattle.refusal.specs.Refusal.{accepted, list_too_short}
 use Rattle.tween.specs.LoopMode.{is_once}
@@ -31,20 +32,16 @@ use Rattle.track.specs.Answers.{Answer, refused_by, reached_from, stayed_in, Mov
 
 -- ---- tests
 
-neither : (a b : Bool) → (a || b) ≡ false → (a ≡ false) × (b ≡ false)
-neither true b e = absurd (true≢false e)
-neither false b e = (refl, e)
-
 -- the three slices have room
 pub room-left : (n : ℕ) (k : List ℕ) (a p : List Float) → short_in n (length k) (length a) (length p) ≡ false → (n ≤ length k) × (n ≤ length a) × (n ≤ length p)
 room-left n k a p e =
-    let x = neither (ltb (length k) n) (ltb (length a) n || ltb (length p) n) e in
-    let y = neither (ltb (length a) n) (ltb (length p) n) x.1 in
+    let x = or_parts (ltb (length k) n) (ltb (length a) n || ltb (length p) n) e in
+    let y = or_parts (ltb (length a) n) (ltb (length p) n) x.1 in
     (ltb-false (length k) n x.0, ltb-false (length a) n y.0, ltb-false (length p) n y.1)
 
 -- there is a reply for each entry
 pub replies-left : (n : ℕ) (rs : List ℕ) → replies_bad_in n rs ≡ false → n ≤ length rs
-replies-left n rs e = ltb-false (length rs) n (neither (ltb (length rs) n) (above_one (take n rs)) e).0
+replies-left n rs e = ltb-false (length rs) n (or_parts (ltb (length rs) n) (above_one (take n rs)) e).0
 
 -- a refused call writes nothing
 nothing_sent : (k : List ℕ) (a p : List Float) → Sent [] k k a a p p

@@ -1,26 +1,27 @@
 // What plays (timeline.rs; paper 01, part 4): a track by value, and the way from it to three columns of numbers and back.
 ghost use Rattle.std.specs.Prelude.{◌≡◌, length};
+ghost use Rattle.steps.specs.Times.{run_of};
 ghost use Rattle.clock.specs.Clocks.{scaled, paused, resumed};
 ghost use Rattle.track.specs.Tracks.{empty_track, live, with_marks, track_base, track_run, progress_in, progress_of};
 ghost use Rattle.track.specs.Columns.{with_clock_at, with_mode_at, entries_in, track_of, laid_over};
 ghost use Rattle.track.specs.Answers.{lent_track, LaidOut, ColumnsOf};
 ghost use Rattle.track.specs.Claims.{Claims};
 
-use clock::{Clock, TimelineState};
-use completions::{MOST_ENTRIES, Spans};
-use steps::{Entry, MAX_ENTRIES};
+use clock::Clock;
+use completions::{MOST_ENTRIES, SpanArrays, Spans};
+use steps::{Entry, MAX_ENTRIES, Run};
 use tween::Loop;
 
 // Seconds of play, as `seek_abs` takes them.
-#[derive(Clone, Copy)]
+#[derive(Clone, Copy, Debug, PartialEq)]
 pub struct Secs(pub f32);
 
 // A share of the run, from 0 to 1, as `seek` takes it.
-#[derive(Clone, Copy)]
+#[derive(Clone, Copy, Debug, PartialEq)]
 pub struct Share(pub f32);
 
-// What plays. The entries that count are the first count of the array, or all of it: paper 01 has fixed
-// arrays in place of heap types.
+// What plays. The entries that count are the first count of the array, or all of it: paper 01 has fixed arrays in place of `Vec`, and
+// a track is `Copy`. Flat, with no `Playhead` in it, as the Rust's `Timeline` is: the definitions of the calls speak of its fields.
 #[derive(Clone, Copy)]
 pub struct Track {
     pub count: usize,
@@ -89,68 +90,69 @@ impl Playhead {
 
 // The queries, over the columns.
 impl Playhead {
+    // How they play: the loop mode and the base.
+    fn run(self, spans: Spans<'_>, marks: &[bool]) -> Run
+        ensures { (result.mode ≡ self.looping) × (result.base ≡ track_base (lent_track self spans.entry marks)) }
+    {
+        Run {
+            mode: self.looping,
+            base: completions::base(spans.first(self.entries(spans, marks.len()))),
+        }
+    }
+
     // The base: `duration`.
     pub fn duration(self, spans: Spans<'_>, marks: &[bool]) -> f32
         ensures { result ≡ track_base (lent_track self spans.entry marks) }
     {
-        completions::base(self.entries(spans, marks.len()), spans)
+        self.run(spans, marks).base
     }
 
     // The run: `playback_duration`.
+    #[tactic(auto, unfolding(crate::specs::Columns::track_of))]
     pub fn playback_duration(self, spans: Spans<'_>, marks: &[bool]) -> f32
         ensures { result ≡ track_run (lent_track self spans.entry marks) }
     {
-        steps::run_of(self.looping, self.duration(spans, marks))
+        self.run(spans, marks).total()
     }
 
     // `progress`
+    #[tactic(auto, unfolding(crate::specs::Columns::track_of))]
     pub fn progress(self, spans: Spans<'_>, marks: &[bool]) -> f32
         ensures { result ≡ progress_of (lent_track self spans.entry marks) }
     {
-        let base = self.duration(spans, marks);
-        let total = steps::run_of(self.looping, base);
-        progress_in(self.looping, base, total, self.clock.elapsed)
+        progress_in(self.run(spans, marks), self.clock.elapsed)
     }
 }
 
 // `progress` at an elapsed time.
-pub fn progress_in(mode: Loop, base: f32, total: f32, elapsed: f32) -> f32
-    ensures { result ≡ progress_in mode base total elapsed }
+#[tactic(auto, unfolding(crate::specs::Tracks::progress_in))]
+pub fn progress_in(run: Run, elapsed: f32) -> f32
+    ensures { result ≡ progress_in run.mode run.base (run_of run.mode run.base) elapsed }
 {
+    let total = run.total();
     if total == 0.0 {
         return 1.0;
     }
     if float32::is_finite(total) {
         return float32::clamp(elapsed / total, 0.0, 1.0);
     }
-    if base == 0.0 {
+    if run.base == 0.0 {
         return 1.0;
     }
-    let t = steps::local_time(mode, base, elapsed);
-    float32::clamp(t / base, 0.0, 1.0)
+    float32::clamp(run.local_time(elapsed) / run.base, 0.0, 1.0)
 }
 
+// The loops go by index: after `iter_mut` a proof knows how many entries there are, and not what was written.
 impl Track {
     // `Timeline::new`
+    #[tactic(auto, unfolding(crate::specs::Tracks::empty_track))]
     pub fn new() -> Track
         ensures { result ≡ empty_track }
     {
-        let none = Entry {
-            start: 0.0,
-            duration: 0.0,
-            done: false,
-        };
-        let clock = Clock {
-            elapsed: 0.0,
-            state: TimelineState::Idle,
-            time_scale: 1.0,
-            complete_fired: false,
-        };
-        let entries = [none; MAX_ENTRIES];
         Track {
             count: 0,
-            entries,
-            clock,
+            entries: [Entry::default(); MAX_ENTRIES],
+            clock: Clock::default(),
             looping: Loop::Once,
         }
     }
@@ -195,15 +197,19 @@ impl Track {
     }
 
     // This track after a call in columns that it was laid out in, which left the clock and the marks.
-    pub fn with_marks(mut self, clock: Clock, marks: &[bool]) -> Track
+    pub fn with_marks(self, clock: Clock, marks: &[bool]) -> Track
         ensures { result ≡ with_marks self clock marks.now }
     {
+        let mut entries = self.entries;
         let n = self.entry_count().min(marks.len());
         for i in 0..n {
-            self.entries[i].done = marks[i];
+            entries[i].done = marks[i];
         }
-        self.clock = clock;
-        self
+        Track {
+            entries,
+            clock,
+            ..self
+        }
     }
 
     // The base: `duration`.
@@ -211,27 +217,30 @@ impl Track {
         ensures { result ≡ track_base self }
     {
         let c = Columns::of(self);
-        let spans = Spans {
-            starts: &c.starts,
-            durations: &c.durations,
-        };
-        completions::base(c.head.count, spans)
+        c.head.duration(c.held.spans(), &c.marks)
     }
 
     // The run: `playback_duration`.
     pub fn playback_duration(self) -> f32
         ensures { result ≡ track_run self }
     {
-        steps::run_of(self.looping, self.duration())
+        let c = Columns::of(self);
+        c.head.playback_duration(c.held.spans(), &c.marks)
     }
 
     // `progress`
     pub fn progress(self) -> f32
         ensures { result ≡ progress_of self }
     {
-        let base = self.duration();
-        let total = steps::run_of(self.looping, base);
-        progress_in(self.looping, base, total, self.clock.elapsed)
+        let c = Columns::of(self);
+        c.head.progress(c.held.spans(), &c.marks)
+    }
+
+    // The entries that count.
+    pub fn entries(&self) -> &[Entry]
+        ensures { result.now ≡ live self.now }
+    {
+        &self.entries[..self.entry_count()]
     }
 
     // How many entries count: `entry_count`.
@@ -246,8 +255,7 @@ impl Track {
 #[derive(Clone, Copy)]
 pub struct Columns {
     pub head: Playhead,
-    pub starts: [f32; MAX_ENTRIES],
-    pub durations: [f32; MAX_ENTRIES],
+    pub held: SpanArrays<MAX_ENTRIES>,
     pub marks: [bool; MAX_ENTRIES],
 }
 
@@ -256,16 +264,13 @@ impl Columns {
     pub fn of(track: Track) -> Columns
         ensures { ColumnsOf track result }
     {
-        let mut starts = [0.0; MAX_ENTRIES];
-        let mut durations = [0.0; MAX_ENTRIES];
+        let mut held = SpanArrays {
+            starts: [0.0; MAX_ENTRIES],
+            durations: [0.0; MAX_ENTRIES],
+        };
         let mut marks = [false; MAX_ENTRIES];
-        let head = track.lay_out(&mut starts, &mut durations, &mut marks);
-        Columns {
-            head,
-            starts,
-            durations,
-            marks,
-        }
+        let head = track.lay_out(&mut held.starts, &mut held.durations, &mut marks);
+        Columns { head, held, marks }
     }
 }
 

@@ -1,7 +1,7 @@
 -- Pairs that are in turn: what each says, and that it lies inside the bytes in which it stands.
 use Prim.Native.Nat.{ℕ, zero, suc, ◌+◌, ◌*◌, ◌≤◌, ◌<◌}
-use mathlib.Core.Path.{◌≡◌, refl, ap, ◌∙◌}
-use mathlib.Core.Bool.{Bool, true, false, ◌&&◌}
+use mathlib.Core.Path.{◌≡◌, ap, ◌∙◌}
+use mathlib.Core.Bool.{Bool, true, ◌&&◌}
 use mathlib.Core.List.{List}
 use native.Mathlib.Nat.{not-suc-le-zero, le_of_suc-le-suc}
 use native.Mathlib.Omega.{arith}
@@ -9,6 +9,7 @@ use borrow.Author.Tests.{eqb-true}
 use lib.Dec.{eqb}
 use lib.ListN.{drop}
 use lib.Seq.{drop-drop}
+use Rattle.std.proofs.lemmas.Bool.{and_parts}
 use Rattle.refusal.specs.Refusal.{accepted}
 use Rattle.refusal.proofs.Checks.{passed_good}
 use Rattle.words.specs.Pairs.{pair_size, offset_in, length_in, pairs_in_turn}
@@ -18,11 +19,6 @@ pub next : (pairs : List ℕ) (i : ℕ) → drop (pair_size * i) (drop pair_size
 next pairs i =
     let n : pair_size + pair_size * i ≡ pair_size * suc i = omega arith in
     drop-drop (pair_size * i) pair_size pairs ∙ ap (λ (m : ℕ). drop m pairs) n
-
--- each of two tests, where both pass
-both : (a b : Bool) → (a && b) ≡ true → (a ≡ true) × (b ≡ true)
-both true b e = (refl, e)
-both false b e = cc
 
 module _ (fits : ℕ → Bool) (bad_pair bad_end len : ℕ) where
   -- what the first pair says, and the others
@@ -35,7 +31,7 @@ module _ (fits : ℕ → Bool) (bad_pair bad_end len : ℕ) where
   unfolding pairs_in_turn
   front offset k pairs e =
       let p = passed_good (eqb (offset_in pairs) offset && fits (length_in pairs)) bad_pair _ e in
-      let t = both _ _ p.0 in
+      let t = and_parts _ _ p.0 in
       record { starts = eqb-true _ _ t.0; short = t.1; rest = p.1 }
 
   pub ends : (offset k : ℕ) (pairs : List ℕ) → pairs_in_turn fits (suc bad_pair) (suc bad_end) len offset k pairs ≡ accepted → offset ≤ len

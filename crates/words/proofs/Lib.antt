@@ -1,4 +1,3 @@
--- Laws of words, parts and pairs in turn.
+-- Laws of words, and of pairs in turn.
 pub mod Bytes
-pub mod Parts
 pub mod InTurn

@@ -9,17 +9,24 @@ ghost use Rattle.words.specs.Pairs.{pair_in, part_by, part_of};
 pub const PAIR_SIZE: usize = 4;
 
 // A u16 offset and a u16 length.
-#[derive(Clone, Copy)]
+#[derive(Clone, Copy, Debug, PartialEq, Eq)]
 pub struct Pair {
     pub offset: usize,
     pub len: usize,
+}
+
+// The bytes from `at` on.
+fn from(s: &[u8], at: usize) -> &[u8]
+    ensures { result.now ≡ drop at s.now }
+{
+    s.get(at..).unwrap_or(&[])
 }
 
 // The u16 at `at`.
 pub fn u16_at(s: &[u8], at: usize) -> u16
     ensures { result ≡ word 2 (drop at s.now) }
 {
-    u16_in(s.get(at..).unwrap_or(&[]))
+    u16_in(from(s, at))
 }
 
 // The u16 at the front.
@@ -38,7 +45,7 @@ fn u16_in(s: &[u8]) -> u16
 pub fn u32_at(s: &[u8], at: usize) -> u32
     ensures { result ≡ word 4 (drop at s.now) }
 {
-    u32_in(s.get(at..).unwrap_or(&[]))
+    u32_in(from(s, at))
 }
 
 // The u32 at the front.
@@ -56,7 +63,7 @@ fn u32_in(s: &[u8]) -> u32
 pub fn pair_at(s: &[u8], at: usize) -> Pair
     ensures { result ≡ pair_in (drop at s.now) }
 {
-    let s = s.get(at..).unwrap_or(&[]);
+    let s = from(s, at);
     Pair {
         offset: usize::from(u16_in(s)),
         len: usize::from(u16_at(s, 2)),
@@ -67,7 +74,7 @@ pub fn pair_at(s: &[u8], at: usize) -> Pair
 pub fn part_of(s: &[u8], pair: Pair) -> &[u8]
     ensures { result.now ≡ part_by s.now pair }
 {
-    let s = s.get(pair.offset..).unwrap_or(&[]);
+    let s = from(s, pair.offset);
     s.get(..pair.len).unwrap_or(s)
 }
 

@@ -1,32 +1,35 @@
 -- `between` is what completes: nothing at the early returns, else what the walk over the entries lists.
 use mathlib.Core.Path.{ap, ◌∙◌}
-use Prim.Native.Nat.{ℕ, min}
-use Rattle.completions.specs.Columns.{most_entries, first_ends}
+use native.Mathlib.Omega.{arith}
+use lib.ListN.{length, length-take}
+use Rattle.completions.specs.Columns.{most_entries, ends, first_ends}
 use Rattle.completions.proofs.Answers.{none_listed}
 use Rattle.completions.proofs.Empty.{not-forward, forward, no-base, no-period, walked}
-use Rattle.completions.proofs.between.Goals.{then-not-prev-next-via-then-not-prev-next, then-not-prev-next-via-else-not-prev-next+then-base}
+use Rattle.completions.proofs.between.Goals.{then-not-step-via-then-not-step, then-not-step-via-else-not-step+then-run}
 use Rattle.completions.proofs.between.Goals as goal
 
-pub returns-then-not-prev-next : goal.returns-then-not-prev-next
-returns-then-not-prev-next c =
+pub list-requires : goal.list-requires
+list-requires c = omega (arith, ap length c.first.ensures, length-take most_entries (ends c.args.spans))
+
+pub returns-then-not-step : goal.returns-then-not-step
+returns-then-not-step c =
     let a = c.args in
-    let ends = first_ends (min a.count most_entries) a.spans in
-    elim c.then-not-prev-next.branch [
-      | then-not-prev-next-via-then-not-prev-next w ↦ none_listed _ _ (not-forward a.mode ends a.base a.prev a.next w.if-not-prev-next.true)
-      | then-not-prev-next-via-else-not-prev-next+then-base w ↦
-          none_listed _ _ (forward a.mode ends a.base a.prev a.next w.if-not-prev-next.false ∙ no-base a.mode ends a.base a.prev a.next w.if-not-prev-next.false w.if-base.true)
+    let ends = first_ends most_entries a.spans in
+    elim c.then-not-step.branch [
+      | then-not-step-via-then-not-step w ↦ none_listed _ _ (not-forward a.run.mode ends a.run.base a.step.prev a.step.next w.if-not-step.true)
+      | then-not-step-via-else-not-step+then-run w ↦
+          none_listed _ _ (forward a.run.mode ends a.run.base a.step.prev a.step.next w.if-not-step.false ∙ no-base a.run.mode ends a.run.base a.step.prev a.step.next w.if-not-step.false w.if-run.true)
     ]
 
 pub returns-then-walk : goal.returns-then-walk
 returns-then-walk c =
     let a = c.args in
-    let ends = first_ends (min a.count most_entries) a.spans in
-    none_listed _ _ (forward a.mode ends a.base a.prev a.next c.if-not-prev-next.false ∙ no-period a.mode ends a.base a.prev a.next c.if-not-prev-next.false c.if-base.false _ c.over-walk.ensures c.if-walk.true)
+    let ends = first_ends most_entries a.spans in
+    none_listed _ _ (forward a.run.mode ends a.run.base a.step.prev a.step.next c.if-not-step.false ∙ no-period a.run.mode ends a.run.base a.step.prev a.step.next c.if-not-step.false c.if-run.false _ c.over-walk.ensures c.if-walk.true)
 
 pub returns : goal.returns
 returns c =
     let a = c.args in
-    let ends = first_ends (min a.count most_entries) a.spans in
-    let e = c.first.ensures ∙ ap (λ (k : ℕ). first_ends k a.spans) c.min.ensures in
-    rw (forward a.mode ends a.base a.prev a.next c.if-not-prev-next.false, walked a.mode ends a.base a.prev a.next c.if-not-prev-next.false c.if-base.false _ c.over-walk.ensures c.if-walk.false, ← e)
+    let ends = first_ends most_entries a.spans in
+    rw (forward a.run.mode ends a.run.base a.step.prev a.step.next c.if-not-step.false, walked a.run.mode ends a.run.base a.step.prev a.step.next c.if-not-step.false c.if-run.false _ c.over-walk.ensures c.if-walk.false, ← c.first.ensures)
     c.list.ensures

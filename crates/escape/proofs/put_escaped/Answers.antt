@@ -9,8 +9,8 @@ returns-then-is_plain c = put_plain c.args.byte c.args.at _ c.requires (sym c.is
 
 pub overflow_add-result : goal.overflow_add-result
 overflow_add-result c =
-    let r = put_other c.args.byte c.args.at _ c.args.out.now _ c.requires (sym c.is_plain.ensures ∙ c.if-is_plain.false) c.put_hex2.ensures in
+    let r = put_other c.args.byte c.args.at _ _ c.args.out.now _ c.requires (sym c.is_plain.ensures ∙ c.if-is_plain.false) c.put_hex2.ensures c.unwrap_or.ensures in
     omega (arith, r.0, byte_few c.args.byte)
 
 pub returns : goal.returns
-returns c = put_other c.args.byte c.args.at _ _ _ c.requires (sym c.is_plain.ensures ∙ c.if-is_plain.false) c.put_hex2.ensures
+returns c = put_other c.args.byte c.args.at _ _ _ _ c.requires (sym c.is_plain.ensures ∙ c.if-is_plain.false) c.put_hex2.ensures c.unwrap_or.ensures

@@ -5,11 +5,10 @@ use mathlib.Core.Bool.{false}
 use mathlib.Core.List.{List}
 use native.Mathlib.Omega.{arith}
 use borrow.Author.Rules.{rules}
-use lib.ListN.{length, get_or, set, length-set, length-take}
+use lib.ListN.{length, get_or, length-set, length-take}
 use Rattle.steps.specs.declared.Entry.{Entry}
 use Rattle.steps.specs.Times.{max_entries}
 use Rattle.steps.proofs.Lists.{unmapped, part_at, front-more, front_at, front-all}
-use Rattle.track.specs.declared.track.Track.{Track}
 use Rattle.track.specs.Tracks.{live, marked, marks as marks_on}
 use Rattle.track.proofs.Marks.{no_entry, length_marked, marks-at}
 use Rattle.track.proofs.track.Track.with_marks.Goals as goal
@@ -30,7 +29,6 @@ loop-i-init c =
       long,
       long,
       refl,
-      refl,
     )
 
 pub loop-i-preserved : goal.loop-i-preserved
@@ -44,17 +42,16 @@ loop-i-preserved c =
     let v = l.invariant in
     let h : i < length es = omega arith in
     let h' : i < length (live k) = omega arith in
-    let read : get_or l.self.entries i no_entry ≡ get_or (live k) i no_entry =
-    front_at i es k.entries l.self.entries no_entry (omega arith) (omega arith) v.6 ∙ sym (part_at k.count k.entries i no_entry h') in
+    let read : get_or l.entries i no_entry ≡ get_or (live k) i no_entry =
+    front_at i es k.entries l.entries no_entry (omega arith) (omega arith) v.6 ∙ sym (part_at k.count k.entries i no_entry h') in
     let here = ap (λ (e : Entry). marked e (get_or ms i false)) read ∙ sym (marks-at (live k) ms i h' (omega arith)) in (
       v.0,
       v.1,
       v.2,
       v.3,
       v.4,
-      length-set l.self.entries i _ ∙ v.5,
-      front-more i es k.entries l.self.entries _ no_entry h (omega arith) here v.6,
-      ap (λ (q : Track). record q { entries = set l.self.entries i (marked (get_or l.self.entries i no_entry) (get_or ms i false)) }) v.7,
+      length-set l.entries i _ ∙ v.5,
+      front-more i es k.entries l.entries _ no_entry h (omega arith) here v.6,
     )
 
 pub returns : goal.returns
@@ -64,5 +61,5 @@ returns c =
     let l = c.loop-i in
     let v = l.invariant in
     let end : l.i ≡ length (marks_on (live k) g.marks.now) = omega arith in
-    let all = front-all l.i (marks_on (live k) g.marks.now) k.entries l.self.entries end v.6 in
-    ap (λ (q : Track). record q { clock = g.clock }) v.7 ∙ ap (λ (es : List Entry). record k { entries = es; clock = g.clock }) all
+    let all = front-all l.i (marks_on (live k) g.marks.now) k.entries l.entries end v.6 in
+    ap (λ (es : List Entry). record k { entries = es; clock = g.clock }) all

@@ -9,11 +9,10 @@ use Rattle.track.proofs.track.Track.with_marks.Given as goal
 
 abbrev pub invariant-loop-i : goal.invariant-loop-i
 invariant-loop-i l =
-    (l.n ≡ length (marks_on (live l.fn.self) l.marks))
-    × (l.n ≤ length (live l.fn.self))
+    (l.n ≡ length (marks_on (live l.self) l.marks))
+    × (l.n ≤ length (live l.self))
     × (l.n ≤ length l.marks)
     × (l.n ≤ max_entries)
-    × (length l.fn.self.entries ≡ max_entries)
     × (length l.self.entries ≡ max_entries)
-    × (l.self.entries ≡ front l.i (marks_on (live l.fn.self) l.marks) l.fn.self.entries)
-    × (l.self ≡ record l.fn.self { entries = l.self.entries })
+    × (length l.entries ≡ max_entries)
+    × (l.entries ≡ front l.i (marks_on (live l.self) l.marks) l.self.entries)
