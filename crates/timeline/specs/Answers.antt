@@ -1,13 +1,17 @@
 -- What a call on a timeline answers, and what it leaves in the slices lent to it, by its outcome. A contract cites `Adds`, `Moves`, `Updates` or `Shows`.
+use denote.MutBor.{MutBor}
 use Rattle.std.specs.Prelude.{ℕ, ◌≡◌, List, length, Float, Result, Ok, Err}
 use Rattle.refusal.specs.declared.Refusal.{Refusal}
 use Rattle.refusal.specs.Refusal.{number, number_in, held_or}
 use Rattle.steps.specs.Slices.{over}
+use Rattle.track.specs.declared.rows.Rows.{Rows}
 use Rattle.track.specs.Tracks.{Sent}
 use Rattle.track.specs.Calls.{Room, TrackCall, Update, Preview}
 use Rattle.track.specs.Answers.{Lent, LentMut, LentRows, SameSlices, Answer, refused_by, lent_room}
+use Rattle.player.specs.declared.engine.Player.{Player}
+use Rattle.player.specs.declared.engine.Updated.{Updated}
+use Rattle.player.specs.Answered.{answer_of, MovesInPlace}
 use Rattle.timeline.specs.declared.timeline.Timeline.{Timeline}
-use Rattle.timeline.specs.declared.timeline.Updated.{Updated}
 use Rattle.timeline.specs.Calls.{Call, On, Out, step}
 
 -- The call with the outcome o, made on the timeline t, answers r: its refusal, or the timeline that it leaves. "panel and builder are
@@ -23,22 +27,22 @@ pub record MoveAnswer (o : Out) (t : Timeline) (r : Result Timeline Refusal) (k�
   pub rows : Sent o.rows k₀ k a₀ a p₀ p
 
 -- what `update` answers beside the timeline, and the timeline that it leaves
-abbrev pub answer_in : Result Updated Refusal → Answer
-answer_in (Ok u) = record { refusal = 0; running = u.running; completed = u.completed; listed = u.listed }
+abbrev pub answer_in : Result (Updated × Timeline) Refusal → Answer
+answer_in (Ok (u, t)) = answer_of u
 answer_in (Err r) = refused_by (number r)
 
-abbrev pub timeline_of : Timeline → Result Updated Refusal → Timeline
-timeline_of t (Ok u) = u.timeline
-timeline_of t (Err r) = t
+abbrev pub timeline_in : Timeline → Result (Updated × Timeline) Refusal → Timeline
+timeline_in t (Ok (u, q)) = q
+timeline_in t (Err r) = t
 
 -- the answer of an update with the outcome o
 abbrev pub answer_by : Out → Answer
 answer_by o = record { refusal = o.refusal; running = o.running; completed = o.completed; listed = length o.listed }
 
 -- `update` with the outcome o, made on t: the answer r, the list and the row slices before and after
-pub record UpdateAnswer (o : Out) (t : Timeline) (r : Result Updated Refusal) (l₀ l k₀ k : List ℕ) (a₀ a p₀ p : List Float) : Type 0 where
+pub record UpdateAnswer (o : Out) (t : Timeline) (r : Result (Updated × Timeline) Refusal) (l₀ l k₀ k : List ℕ) (a₀ a p₀ p : List Float) : Type 0 where
   pub answer : answer_in r ≡ answer_by o
-  pub timeline : timeline_of t r ≡ o.timeline
+  pub timeline : timeline_in t r ≡ o.timeline
   pub list : l ≡ over o.listed l₀
   pub rows : Sent o.rows k₀ k a₀ a p₀ p
 
@@ -54,11 +58,15 @@ MovesOn t call r rows =
     × MoveAnswer (step t (call (lent_room rows))) t r
     rows.entry.now.kinds.now rows.exit.now.kinds.now rows.entry.now.amounts.now rows.exit.now.amounts.now rows.entry.now.places.now rows.exit.now.places.now
 
+-- the calls of a closure, by what they can come to, are this call of a player
+abbrev pub Makes : (MutBor Player → MutBor Rows → Result Unit Refusal → MutBor Player → MutBor Rows → Type 0) → (Room → TrackCall) → Type 0
+Makes post call = (p : MutBor Player) (r : MutBor Rows) (x : Result Unit Refusal) (q : MutBor Player) (s : MutBor Rows) → post p r x q s → MovesInPlace p.now call x q.now r.now s.now
+
 abbrev pub Moves : Timeline → (Room → TrackCall) → Result Timeline Refusal → LentRows → Type 0
 Moves t call = MovesOn t (λ (room : Room). On (call room))
 
 -- the update by dt answers r
-abbrev pub Updates : Timeline → Float → Lent ℕ → Result Updated Refusal → LentMut ℕ → LentRows → Type 0
+abbrev pub Updates : Timeline → Float → Lent ℕ → Result (Updated × Timeline) Refusal → LentMut ℕ → LentRows → Type 0
 Updates t dt replies r list rows =
     SameSlices rows.entry.now rows.exit.now
     × UpdateAnswer (step t (On (Update dt replies.entry.now (length list.entry.now) (lent_room rows)))) t r

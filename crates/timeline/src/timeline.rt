@@ -7,17 +7,16 @@ ghost use Rattle.steps.specs.Times.{max_entries};
 ghost use Rattle.label.specs.Label.{first_like};
 ghost use Rattle.clock.specs.Clocks.{is_completed};
 ghost use Rattle.track.specs.Tracks.{live, with_marks, track_base, track_run, progress_of, blank};
-ghost use Rattle.track.specs.Calls.{Looping, SetTimeScale, Play, Pause, Resume, Reset, Seek, SeekAbs, with_clock};
+ghost use Rattle.track.specs.Calls.{Room, TrackCall, Looping, SetTimeScale, Play, Pause, Resume, Reset, Seek, SeekAbs, with_clock};
 ghost use Rattle.timeline.specs.Placements.{empty, live_labels, start_found, named_start, resolve_start, grown};
 ghost use Rattle.timeline.specs.Calls.{Add, AddBoxed, AddAtLabel, On, added_at, with_track, step};
-ghost use Rattle.timeline.specs.Answers.{Adds, Moves, Updates, Shows};
+ghost use Rattle.timeline.specs.Answers.{Adds, Makes, Moves, Updates, Shows};
 ghost use Rattle.timeline.specs.Introspections.{introspected};
 
 use crate::introspection::{AnimationIntrospection, AnimationKind};
 use clock::{Clock, TimelineState};
-use completions::Spans;
 use label::{Label, MAX_LABEL};
-use player::engine;
+use player::engine::{Player, Updated, preview};
 use refusal::Refusal;
 use steps::{Entry, MAX_ENTRIES};
 use track::rows::Rows;
@@ -45,15 +44,6 @@ pub enum At {
 pub struct Timeline {
     pub track: Track,
     pub labels: [Label; MAX_ENTRIES],
-}
-
-// The answer of update: whether it still runs, whether the whole-run completion fired now, how many entries it listed, and the timeline.
-#[derive(Clone, Copy)]
-pub struct Updated {
-    pub running: bool,
-    pub completed: bool,
-    pub listed: usize,
-    pub timeline: Timeline,
 }
 
 impl Timeline {
@@ -119,13 +109,7 @@ impl Timeline {
     pub fn play(self, rows: &mut Rows<'_>) -> Result<Timeline, Refusal>
         ensures { Moves self Play result rows }
     {
-        let c = &mut Columns::of(self.track);
-        let spans = Spans {
-            starts: &c.starts,
-            durations: &c.durations,
-        };
-        let clock = engine::play(c.head, spans, &mut c.marks, rows)?;
-        Ok(self.left(clock, &c.marks))
+        self.moved(rows, |player, rows| player.play(rows))
     }
 
     // Pauses what is Playing.
@@ -146,39 +130,21 @@ impl Timeline {
     pub fn reset(self, rows: &mut Rows<'_>) -> Result<Timeline, Refusal>
         ensures { Moves self Reset result rows }
     {
-        let c = &mut Columns::of(self.track);
-        let spans = Spans {
-            starts: &c.starts,
-            durations: &c.durations,
-        };
-        let clock = engine::reset(c.head, spans, &mut c.marks, rows)?;
-        Ok(self.left(clock, &c.marks))
+        self.moved(rows, |player, rows| player.reset(rows))
     }
 
     // To a share of the run; of an infinite run, to a share of the base.
     pub fn seek(self, to: Share, rows: &mut Rows<'_>) -> Result<Timeline, Refusal>
         ensures { Moves self (Seek to.0) result rows }
     {
-        let c = &mut Columns::of(self.track);
-        let spans = Spans {
-            starts: &c.starts,
-            durations: &c.durations,
-        };
-        let clock = engine::seek(c.head, to, spans, &mut c.marks, rows)?;
-        Ok(self.left(clock, &c.marks))
+        self.moved(rows, |player, rows| player.seek(to, rows))
     }
 
     // To a second of the run.
     pub fn seek_abs(self, to: Secs, rows: &mut Rows<'_>) -> Result<Timeline, Refusal>
         ensures { Moves self (SeekAbs to.0) result rows }
     {
-        let c = &mut Columns::of(self.track);
-        let spans = Spans {
-            starts: &c.starts,
-            durations: &c.durations,
-        };
-        let clock = engine::seek_abs(c.head, to, spans, &mut c.marks, rows)?;
-        Ok(self.left(clock, &c.marks))
+        self.moved(rows, |player, rows| player.seek_abs(to, rows))
     }
 
     // The base: where the last entry ends.
@@ -314,6 +280,26 @@ impl Timeline {
         })
     }
 
+    // A call that moves what plays, made by a player of the track's columns.
+    fn moved<F: FnOnce(&mut Player<'_, '_>, &mut Rows<'_>) -> Result<(), Refusal>>(
+        self,
+        rows: &mut Rows<'_>,
+        make: F,
+    ) -> Result<Timeline, Refusal>
+        requires { F.IsAlwaysCallable make }
+        ensures { (call : Room → TrackCall) → Makes (F.post make) call → Moves self call result rows }
+    {
+        let c = &mut Columns::of(self.track);
+        let mut player = Player {
+            head: c.head,
+            spans: c.held.spans(),
+            marks: &mut c.marks,
+        };
+        make(&mut player, rows)?;
+        let clock = player.head.clock;
+        Ok(self.left(clock, &c.marks))
+    }
+
     // What is left of it after a call in columns that its track was laid out in: the clock and the marks are those of there.
     fn left(self, clock: Clock, marks: &[bool]) -> Timeline
         ensures { result ≡ with_track self (with_marks self.track clock marks.now) }
@@ -337,21 +323,18 @@ impl Timeline {
         replies: &[u8],
         list: &mut [u8],
         rows: &mut Rows<'_>,
-    ) -> Result<Updated, Refusal>
+    ) -> Result<(Updated, Timeline), Refusal>
         ensures { Updates self dt replies result list rows }
     {
         let c = &mut Columns::of(self.track);
-        let spans = Spans {
-            starts: &c.starts,
-            durations: &c.durations,
+        let mut player = Player {
+            head: c.head,
+            spans: c.held.spans(),
+            marks: &mut c.marks,
         };
-        let u = engine::update(c.head, dt, spans, &mut c.marks, replies, list, rows)?;
-        Ok(Updated {
-            running: u.running,
-            completed: u.completed,
-            listed: u.listed,
-            timeline: self.left(u.clock, &c.marks),
-        })
+        let answer = player.update(dt, replies, list, rows)?;
+        let clock = player.head.clock;
+        Ok((answer, self.left(clock, &c.marks)))
     }
 
     // The rows that such an update would write, with room enough; the timeline stays.
@@ -359,11 +342,7 @@ impl Timeline {
         ensures { Shows self dt result rows }
     {
         let c = Columns::of(self.track);
-        let spans = Spans {
-            starts: &c.starts,
-            durations: &c.durations,
-        };
-        engine::preview(c.head, dt, spans, &c.marks, rows)
+        preview(c.head, dt, c.held.spans(), &c.marks, rows)
     }
 
     // What is reported of it: its duration is the run.

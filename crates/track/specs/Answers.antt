@@ -100,33 +100,6 @@ left_track head c spans marks = track_of (with_clock_at head c) spans.starts.now
 abbrev pub lent_room : LentRows → Room
 lent_room rows = room_of rows.entry.now.kinds.now rows.entry.now.amounts.now rows.entry.now.places.now
 
--- the rows rs have been sent to them
-abbrev pub SentIn : List Row → LentRows → Type 0
-SentIn rs rows =
-    SameSlices rows.entry.now rows.exit.now
-    × Sent rs rows.entry.now.kinds.now rows.exit.now.kinds.now rows.entry.now.amounts.now rows.exit.now.amounts.now rows.entry.now.places.now rows.exit.now.places.now
-
--- the call in place answers r: its refusal, or the clock that it leaves; a refused one leaves the clock of before
-abbrev pub MovesInPlace : Playhead → Spans → LentMut Bool → (Room → TrackCall) → Result Clock Refusal → LentRows → Type 0
-MovesInPlace head spans marks call r rows =
-    SameSlices rows.entry.now rows.exit.now
-    × MovesBy (track_step (lent_track head spans (seen marks)) (call (lent_room rows))) (number_in r) (left_track head (held_or head.clock r) spans marks)
-    rows.entry.now.kinds.now rows.exit.now.kinds.now rows.entry.now.amounts.now rows.exit.now.amounts.now rows.entry.now.places.now rows.exit.now.places.now
-
--- the update by dt in place answers x and leaves the clock c
-abbrev pub UpdatesInPlace : Playhead → Spans → LentMut Bool → Float → Lent ℕ → Answer → Clock → LentMut ℕ → LentRows → Type 0
-UpdatesInPlace head spans marks dt replies x c list rows =
-    SameSlices rows.entry.now rows.exit.now
-    × UpdatesBy (track_step (lent_track head spans (seen marks)) (Update dt replies.entry.now (length list.entry.now) (lent_room rows))) x (left_track head c spans marks)
-    list.entry.now list.exit.now rows.entry.now.kinds.now rows.exit.now.kinds.now rows.entry.now.amounts.now rows.exit.now.amounts.now rows.entry.now.places.now rows.exit.now.places.now
-
--- the preview in place of an update by dt answers r
-abbrev pub ShowsInPlace : Playhead → Spans → Lent Bool → Float → Result Unit Refusal → LentRows → Type 0
-ShowsInPlace head spans marks dt r rows =
-    SameSlices rows.entry.now rows.exit.now
-    × ShowsBy (track_step (lent_track head spans marks) (Preview dt (lent_room rows))) (number_in r)
-    rows.entry.now.kinds.now rows.exit.now.kinds.now rows.entry.now.amounts.now rows.exit.now.amounts.now rows.entry.now.places.now rows.exit.now.places.now
-
 -- the entries es of the track k stand in the columns, and the playhead h plays them
 pub record LaysOut (k : Track) (es : List Entry) (h : Playhead) (s₀ s d₀ d : List Float) (m₀ m : List Bool) : Type 0 where
   pub head : h ≡ record { count = length es; clock = k.clock; looping = k.looping }
