@@ -1,13 +1,15 @@
 -- Batches of calls: one call more, and how much fuel is enough.
-use Prim.Native.Nat.{ℕ, zero, suc, ◌+◌, ◌-◌, ◌≤◌, ◌<◌}
+use Prim.Native.Nat.{ℕ, zero, suc, ◌+◌, ◌-◌, ◌%◌, ◌≤◌, ◌<◌, min}
 use mathlib.Core.Path.{◌≡◌, refl, sym, ap, ◌∙◌}
-use mathlib.Core.Bool.{Bool, true, false}
+use mathlib.Core.Bool.{Bool, true, false, cond, ◌&&◌}
 use mathlib.Core.List.{List, [], ◌∷◌, ◌++◌, append_assoc, append-nil}
 use native.Mathlib.Nat.{not-suc-le-zero, add_assoc, add-zero, zero-add, sub-zero}
 use native.Mathlib.Omega.{arith}
-use borrow.Author.Tests.{le-leb, lt-leb}
-use lib.ListN.{length, take, drop, length-drop}
-use lib.Seq.{take_all, drop-drop}
+use borrow.Author.Tests.{le-leb, lt-leb, leb-true, leb-false}
+use lib.Dec.{leb}
+use lib.ListN.{length, take, drop, length-take, length-drop}
+use lib.Seq.{drop-drop}
+use Rattle.std.specs.Prelude.{Option, None, Some}
 use Rattle.digits.specs.Digits.{put_at}
 use Rattle.completions.specs.declared.Spans.{Spans}
 use Rattle.track.specs.declared.rows.Rows.{Rows}
@@ -16,9 +18,9 @@ use Rattle.track.specs.Columns.{track_of}
 use Rattle.call_log.specs.declared.Log.{Log}
 use Rattle.call_log.specs.declared.Turn.{Turn}
 use Rattle.call_log.specs.declared.Ran.{Ran}
-use Rattle.call_log.specs.Lines.{line_size, Wrote}
+use Rattle.call_log.specs.Lines.{line_size, shown_all, Wrote}
 use Rattle.call_log.specs.Logs.{call_size}
-use Rattle.call_log.specs.Machine.{next_bytes, next_log, least_bytes, is_next, no_calls, call_then, batch_from, batch_of, RunsTo}
+use Rattle.call_log.specs.Machine.{next_lines, next_bytes, next_log, least_bytes, is_next, no_calls, Calls, call_then, batch_from, batch_of, RunsTo}
 use Rattle.call_log.proofs.Writing.{wrote_length, wrote_then, wrote_none, wrote_all}
 
 -- ---- one call more
@@ -33,6 +35,10 @@ pub some_bytes : (ended : Bool) → 1 ≤ least_bytes ended
 some_bytes true = omega arith
 some_bytes false = omega arith
 
+and-false : (a b : Bool) → b ≡ false → a && b ≡ false
+and-false true b e = e
+and-false false b e = refl
+
 -- when a call is made
 module _ (ended : Bool) (bytes : List ℕ) (room : ℕ) where
   pub is-next : least_bytes ended ≤ length bytes → line_size ≤ room → is_next ended bytes room ≡ true
@@ -44,19 +50,18 @@ module _ (ended : Bool) (bytes : List ℕ) (room : ℕ) where
   pub no_room : least_bytes ended ≤ length bytes → room < line_size → is_next ended bytes room ≡ false
   no_room h i = rw (le-leb (least_bytes ended) (length bytes) h, lt-leb line_size room i)
 
+  none_fits : room < line_size → is_next ended bytes room ≡ false
+  none_fits i = and-false _ _ (lt-leb line_size room i)
+
 -- what the bytes after a call are, by the bytes that it used
 pub drop-taken : (n : ℕ) (xs : List ℕ) → drop (length (take n xs)) xs ≡ drop n xs
 drop-taken zero xs = refl
 drop-taken (suc n) [] = refl
 drop-taken (suc n) (x ∷ xs) = drop-taken n xs
 
--- a part to the end is the whole rest
-pub part-rest : (n : ℕ) (xs : List ℕ) → take (length xs - n) (drop n xs) ≡ drop n xs
-part-rest n xs = take_all (length xs - n) (drop n xs) (omega (arith, length-drop n xs))
-
 module _ (ended : Bool) where
   -- fuel for as many calls as there are bytes is enough
-  enough : (k m : ℕ) (log : Log) (bytes : List ℕ) (room : ℕ) → length bytes ≤ k → length bytes ≤ m → batch_from k ended log bytes room ≡ batch_from m ended log bytes room
+  enough : (k m : ℕ) (log : Option Log) (bytes : List ℕ) (room : ℕ) → length bytes ≤ k → length bytes ≤ m → batch_from k ended log bytes room ≡ batch_from m ended log bytes room
   unfolding batch_from
   enough zero zero log bytes room h i = refl
   enough zero (suc m) log [] room h i = rw (none_next ended room)
@@ -68,7 +73,7 @@ module _ (ended : Bool) where
       rw (enough k m (next_log log bytes) (drop call_size bytes) (room - length (next_bytes log bytes)) (omega arith) (omega arith))
 
   -- a call that is made comes first, and where none is made there are none
-  module _ (log : Log) (bytes : List ℕ) (room : ℕ) where
+  module _ (log : Option Log) (bytes : List ℕ) (room : ℕ) where
     pub more-calls : is_next ended bytes room ≡ true
         → batch_of ended log bytes room ≡ call_then (length (take call_size bytes)) (next_bytes log bytes) (batch_of ended (next_log log bytes) (drop call_size bytes) (room - length (next_bytes log bytes)))
     unfolding batch_from
@@ -89,11 +94,70 @@ module _ (ended : Bool) where
         go zero = refl
         go (suc k) = rw e
 
+-- ---- a sheet that was refused
+
+closed_cond : (b : Bool) (n : ℕ) (c : Calls) → c ≡ record { used = c.used; text = []; log = None } → cond b (call_then n [] c) (no_calls None) ≡ record { used = (cond b (call_then n [] c) (no_calls None)).used; text = []; log = None }
+closed_cond true n c e = ap (λ (d : Calls). call_then n [] d) e
+closed_cond false n c e = refl
+
+module _ (ended : Bool) where
+  -- the calls have no lines, and leave no log
+  closed_from : (k : ℕ) (bytes : List ℕ) (room : ℕ) → batch_from k ended None bytes room ≡ record { used = (batch_from k ended None bytes room).used; text = []; log = None }
+  unfolding batch_from next_lines next_log shown_all
+  closed_from zero bytes room = refl
+  closed_from (suc k) bytes room = closed_cond (is_next ended bytes room) (length (take call_size bytes)) _ (closed_from k (drop call_size bytes) (room - 0))
+
+  pub closed_batch : (bytes : List ℕ) (room : ℕ) → batch_of ended None bytes room ≡ record { used = (batch_of ended None bytes room).used; text = []; log = None }
+  closed_batch bytes room = closed_from (length bytes) bytes room
+
+  -- where a line has no room they use nothing up
+  pub none_used : (bytes : List ℕ) (room : ℕ) → room < line_size → (batch_of ended None bytes room).used ≡ 0
+  none_used bytes room h = ap (λ (c : Calls). c.used) (no-calls ended None bytes room (none_fits ended bytes room h))
+
+-- else all calls: one more where its bytes are there
+module _ (ended : Bool) (k : ℕ) (bytes : List ℕ) (room : ℕ) (h : line_size ≤ room) where
+  one_used : least_bytes ended ≤ length bytes → (batch_from (suc k) ended None bytes room).used ≡ min call_size (length bytes) + (batch_from k ended None (drop call_size bytes) room).used
+  unfolding batch_from next_lines next_log shown_all
+  one_used i = rw (is-next ended bytes room i h, sub-zero, length-take)
+
+  last_used : length bytes < least_bytes ended → (batch_from (suc k) ended None bytes room).used ≡ 0
+  unfolding batch_from
+  last_used i = rw (no_bytes ended bytes room i)
+
+-- so whole calls, and where the input has ended what is left over, too
+abbrev passed : Bool → ℕ → ℕ
+passed ended n = cond ended n (n - n % call_size)
+
+module _ (room : ℕ) (h : line_size ≤ room) where
+  one_more_used : (k : ℕ) (ended : Bool) (bytes : List ℕ) → (batch_from k ended None (drop call_size bytes) room).used ≡ passed ended (length (drop call_size bytes))
+      → (batch_from (suc k) ended None bytes room).used ≡ passed ended (length bytes)
+  one_more_used k true bytes e = go (leb 1 (length bytes)) refl
+    where
+      go : (b : Bool) → leb 1 (length bytes) ≡ b → (batch_from (suc k) true None bytes room).used ≡ length bytes
+      go true t = let l : 1 ≤ length bytes = leb-true _ _ t in omega (arith, one_used true k bytes room h l, e, length-drop call_size bytes)
+      go false t = let l : length bytes < 1 = leb-false _ _ t in omega (arith, last_used true k bytes room h l)
+  one_more_used k false bytes e = go (leb call_size (length bytes)) refl
+    where
+      go : (b : Bool) → leb call_size (length bytes) ≡ b → (batch_from (suc k) false None bytes room).used ≡ length bytes - length bytes % call_size
+      go true t = let l : call_size ≤ length bytes = leb-true _ _ t in omega (arith, one_used false k bytes room h l, e, length-drop call_size bytes)
+      go false t = let l : length bytes < call_size = leb-false _ _ t in omega (arith, last_used false k bytes room h l)
+
+  used_from : (k : ℕ) (ended : Bool) (bytes : List ℕ) → length bytes ≤ k → (batch_from k ended None bytes room).used ≡ passed ended (length bytes)
+  unfolding batch_from
+  used_from zero true bytes i = omega arith
+  used_from zero false bytes i = omega arith
+  used_from (suc k) ended bytes i = one_more_used k ended bytes (used_from k ended (drop call_size bytes) (omega (arith, length-drop call_size bytes)))
+
+  pub all_used : (ended : Bool) (bytes : List ℕ) → (batch_of ended None bytes room).used ≡ passed ended (length bytes)
+  all_used ended bytes = used_from (length bytes) ended bytes (omega arith)
+
+pub ruleset used = (none_used, all_used)
+
 -- ---- the loop
 
 -- a log whose track plays in columns
-abbrev pub log_in : Turn → Bool → Spans → List Bool → Log
-log_in turn logging spans ms = record { number = turn.number; logging = logging; track = track_of turn.head spans.starts.now spans.durations.now ms }
+abbrev pub log_in : Turn → Spans → List Bool → Log
+log_in turn spans ms = record { number = turn.number; track = track_of turn.head spans.starts.now spans.durations.now ms }
 
 -- the same slices, twice
 pub then_slices : {r s t : Rows} → SameSlices r s → SameSlices s t → SameSlices r t

@@ -4,7 +4,8 @@
 mod fields;
 mod lines;
 
-ghost use Rattle.std.specs.Prelude.{◌≡◌, ◌+◌, ◌<◌, ◌≤◌, length, Some, None, IfNone, IfSome, result_ok};
+ghost use Rattle.std.specs.Prelude.{◌≡◌, ◌+◌, ◌<◌, ◌≤◌, length, true, false, Some, None, IfNone, IfSome};
+ghost use Rattle.std.specs.Result.{result_ok};
 ghost use Rattle.refusal.specs.Refusal.{number_in};
 ghost use Rattle.track.specs.Answers.{SameSlices};
 ghost use Rattle.call_log.specs.Lines.{shown, line_size};
@@ -120,6 +121,7 @@ fn read(input: &[u8]) -> Result<Log, Refusal>
 }
 
 // The sheet, where it is not too long and the input has all of it.
+#[tactic(auto, using(crate::proofs::Opening::sheets))]
 fn sheet_in(input: &[u8]) -> Option<&[u8]>
     ensures none { IfNone result (is_cut input.now ≡ true) }
     ensures some { IfSome result (λ sheet. (is_cut input.now ≡ false) × (sheet.now ≡ sheet_in input.now)) }
@@ -173,6 +175,7 @@ pub fn batch(log: Option<Log>, bytes: &[u8], ended: bool, out: &mut [u8]) -> Bat
 }
 
 // How many bytes are used up where there is no log: all calls, if a line has room.
+#[tactic(auto, using(crate::proofs::Batches::used))]
 fn used_up(bytes: &[u8], ended: bool, room: usize) -> usize
     ensures { result ≡ (batch_of ended None bytes.now room).used }
 {

@@ -53,7 +53,7 @@ impl<'a> Spans<'a> {
 }
 
 // Columns of N entries, held.
-#[derive(Clone, Copy, Debug)]
+#[derive(Clone, Copy, Debug, PartialEq)]
 pub struct SpanArrays<const N: usize> {
     pub starts: [f32; N],
     pub durations: [f32; N],
@@ -160,6 +160,7 @@ impl Walk {
         requires { (length (ends spans) ≤ most_entries) × (at + length (in_cycle self start 0 (ends spans)) ≤ length list.old) }
         ensures { (result ≡ at + length (in_cycle self start 0 (ends spans.entry))) × (list.new ≡ sets list.old at (in_cycle self start 0 (ends spans.entry))) }
     {
+        // by hand: a proof knows nothing of what `iter_mut` wrote
         let mut k = at;
         for (i, (s, d)) in spans.starts.iter().zip(spans.durations).enumerate() {
             if self.completes(start, *s + *d) {
@@ -188,7 +189,8 @@ impl Walk {
         Some(m)
     }
 
-    // The second pass: writes them over the front of a list that has room.
+    // The second pass: writes them over the front of a list that has room. Of the walk itself the passes share `onward` and one
+    // test; a walk that takes a closure would be longer, since its contract has to say which calls it makes.
     fn write(self, spans: Spans, first: u32, list: &mut [u8])
         requires { (length (ends spans) ≤ most_entries) × (length (cycles_from self (ends spans) first) ≤ length list.old) }
         ensures { list.new ≡ over (cycles_from self (ends spans.entry) first) list.old }

@@ -8,12 +8,13 @@ use borrow.Author.Tests.{ltb-false, ne_eqb}
 use lib.Dec.{ltb, lit≤}
 use lib.ListN.{length, take, length-append, length-take}
 use lib.Ieee.{Float}
-use Rattle.std.specs.Prelude.{Ok, Err}
+use Rattle.std.specs.Prelude.{Option, Ok, Err}
+use Rattle.core.specs.Option.{unwrap_or}
 use Rattle.refusal.specs.declared.Refusal.{Refusal}
 use Rattle.refusal.specs.Refusal.{accepted, timeline_full, number}
 use Rattle.digits.specs.Digits.{decimal, put_at, Put}
 use Rattle.digits.proofs.Claim.{decimal-least, decimal-word}
-use Rattle.digits.proofs.Room.{written-whole}
+use Rattle.digits.proofs.Room.{put_whole}
 use Rattle.digits.proofs.PutAt.{take-putAt}
 use Rattle.steps.specs.Times.{max_entries}
 use Rattle.label.specs.Label.{max_label}
@@ -44,14 +45,15 @@ pub record Labeled (i n : ℕ) (bytes : List ℕ) : Type 0 where
   pub few : n ≤ 20
 
 -- the index put behind `item_`
-pub labeled : (i n : ℕ) (old new : List ℕ) → i < 2 ^ 64 → length old ≡ 25 → take 5 old ≡ item_prefix → Put (decimal i) 5 old new n → Labeled i n new
+pub labeled : (i n : ℕ) (old new : List ℕ) (count : Option ℕ) → i < 2 ^ 64 → length old ≡ 25 → take 5 old ≡ item_prefix
+    → Put (decimal i) 5 old new count → n ≡ unwrap_or count 0 → Labeled i n new
 unfolding item_label
-labeled i n old new h l front p =
+labeled i n old new count h l front p or =
     let few = decimal-word i h in
     let fits : 5 + length (decimal i) ≤ length old = omega arith in
-    let whole = written-whole (decimal i) 5 old fits in
-    let e : n ≡ length (decimal i) = p.counted ∙ whole.1 in
-    let b : new ≡ put_at (decimal i) 5 old = p.bytes ∙ whole.0 in
+    let whole = put_whole (decimal i) 5 old new count n fits p or in
+    let e : n ≡ length (decimal i) = whole.0 in
+    let b : new ≡ put_at (decimal i) 5 old = whole.1 in
     let text : take (5 + n) new ≡ item_prefix ++ decimal i = rw (e, b) (take-putAt (decimal i) 5 old fits ∙ ap (λ (x : List ℕ). x ++ decimal i) front) in
     let long : length (take (5 + n) new) ≡ 5 + n = ap length text ∙ length-append item_prefix (decimal i) ∙ ap (λ (x : ℕ). 5 + x) (sym e) in
     record { text = text; within = omega (arith, length-take (5 + n) new); few = omega arith }

@@ -19,7 +19,7 @@ use Rattle.timeline.specs.declared.timeline.Updated.{Updated}
 use Rattle.timeline.specs.Calls.{Call, On}
 use Rattle.timeline.specs.Introspections.{playback_state, introspection}
 use Rattle.group.specs.declared.group.AnimationGroup.{AnimationGroup}
-use Rattle.group.specs.declared.group.GroupBuilt.{GroupBuilt}
+use Rattle.group.specs.declared.item.Built.{Built}
 use Rattle.group.specs.declared.group.GroupUpdated.{GroupUpdated}
 use Rattle.group.specs.Items.{item_calls, too_many, first_refusal, HandedOut, built_by}
 use Rattle.group.specs.Sequence.{cursor_after}
@@ -31,8 +31,8 @@ group_of t = record { inner = t }
 -- ---- builders
 
 -- the answer of a builder, as its timeline gives it
-abbrev pub group_handed_out : GroupBuilt → HandedOut
-group_handed_out b = record { refusal = number_if b.refusal; timeline = b.group.inner }
+abbrev pub group_handed_out : Built AnimationGroup → HandedOut
+group_handed_out b = record { refusal = number_if b.refusal; timeline = b.panel.inner }
 
 -- `parallel`: every item at `At::Start`
 abbrev pub at_start : ℕ → At

@@ -1,5 +1,5 @@
 -- The items of a builder: their labels, the calls that add them, and what the builder hands out. Definitions only.
-use Rattle.std.specs.Prelude.{ℕ, ◌+◌, ◌<◌, ◌≡◌, cond, List, [], ◌∷◌, ◌++◌, eqb, ltb, Float, Option, Some, None, Result, Ok}
+use Rattle.std.specs.Prelude.{ℕ, ◌+◌, ◌<◌, ◌≡◌, cond, List, [], ◌∷◌, ◌++◌, eqb, ltb, Float, Result, Ok}
 use Rattle.refusal.specs.declared.Refusal.{Refusal}
 use Rattle.refusal.specs.Refusal.{accepted, timeline_full, number_if, number_in, held_or}
 use Rattle.digits.specs.Digits.{decimal}
@@ -43,8 +43,8 @@ built_by refusal calls = record { refusal = refusal; timeline = after empty (con
 -- ---- answers
 
 -- the answer of a builder, with its number
-abbrev pub handed_out : Built → HandedOut
-handed_out b = record { refusal = number_if b.refusal; timeline = b.timeline }
+abbrev pub handed_out : Built Timeline → HandedOut
+handed_out b = record { refusal = number_if b.refusal; timeline = b.panel }
 
 -- the answer r, handed out: "the empty panel" where it is refused
 abbrev pub hands_out : Result Timeline Refusal → HandedOut

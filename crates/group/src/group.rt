@@ -12,7 +12,7 @@ use crate::item;
 use crate::item::{Built, ItemLabel};
 use crate::sequence::Sequence;
 use refusal::Refusal;
-use timeline::introspection::{AnimationIntrospection, AnimationKind, playback_state};
+use timeline::introspection::{AnimationIntrospection, AnimationKind};
 use timeline::timeline::{At, Timeline};
 use track::rows::Rows;
 use track::track::Share;
@@ -24,13 +24,6 @@ pub struct AnimationGroup {
     pub inner: Timeline,
 }
 
-// The answer of the builders; where one is refused, the group is empty. No Result, as in `Built`.
-#[derive(Clone, Copy)]
-pub struct GroupBuilt {
-    pub refusal: Option<Refusal>,
-    pub group: AnimationGroup,
-}
-
 // The answer of update: whether it still runs, whether the whole-run completion fired now, how many entries it listed, and the group.
 #[derive(Clone, Copy)]
 pub struct GroupUpdated {
@@ -40,46 +33,42 @@ pub struct GroupUpdated {
     pub group: AnimationGroup,
 }
 
-// What was built, or the empty group where that was refused.
-impl From<Result<Timeline, Refusal>> for GroupBuilt {
-    ghost from_gives = { λ answer built. group_handed_out built ≡ hands_out answer };
+// The group of a timeline.
+impl From<Timeline> for AnimationGroup {
+    ghost from_gives = { λ timeline group. group ≡ group_of timeline };
 
-    fn from(answer: Result<Timeline, Refusal>) -> GroupBuilt {
-        let built = Built::from(answer);
-        GroupBuilt {
-            refusal: built.refusal,
-            group: AnimationGroup::from_timeline(built.timeline),
-        }
+    fn from(timeline: Timeline) -> AnimationGroup {
+        AnimationGroup { inner: timeline }
     }
 }
 
 impl AnimationGroup {
-    // The group of a timeline.
+    // The same, by the Rust's name.
     pub fn from_timeline(timeline: Timeline) -> AnimationGroup
         ensures { result ≡ group_of timeline }
     {
-        AnimationGroup { inner: timeline }
+        AnimationGroup::from(timeline)
     }
 
     // All animations at the same time.
-    pub fn parallel(durations: &[f32]) -> GroupBuilt
+    pub fn parallel(durations: &[f32]) -> Built<AnimationGroup>
         ensures { group_handed_out result ≡ parallel_of durations.now }
     {
-        GroupBuilt::from(item::add_each(durations, |_| Ok(At::Start)))
+        Built::from(item::add_each(durations, |_| Ok(At::Start)))
     }
 
     // The animations one after another.
-    pub fn sequence(durations: &[f32]) -> GroupBuilt
+    pub fn sequence(durations: &[f32]) -> Built<AnimationGroup>
         ensures { group_handed_out result ≡ sequence_of durations.now }
     {
-        GroupBuilt::from(sequenced(durations))
+        Built::from(sequenced(durations))
     }
 
     // The animations with the delays of a pattern; a grid too large is refused before too many animations.
-    pub fn stagger(durations: &[f32], pattern: StaggerPattern) -> GroupBuilt
+    pub fn stagger(durations: &[f32], pattern: StaggerPattern) -> Built<AnimationGroup>
         ensures { group_handed_out result ≡ stagger_of durations.now pattern }
     {
-        GroupBuilt::from(staggered(durations, pattern))
+        Built::from(staggered(durations, pattern))
     }
 
     // The timeline of the group.
@@ -197,7 +186,7 @@ impl AnimationGroup {
             self.progress(),
             self.inner.elapsed(),
             self.duration(),
-            playback_state(self.inner.state()),
+            self.inner.state().into(),
         )
     }
 }

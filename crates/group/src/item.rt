@@ -1,34 +1,31 @@
 // What the builders share: their answer, and their items, whose labels are `item_` and the decimal index.
 ghost use Rattle.std.specs.Prelude.{◌≡◌, ◌≤◌, ℕ, length, take};
-ghost use Rattle.refusal.specs.Refusal.{number_in};
+ghost use Rattle.refusal.specs.Refusal.{number_in, number_if, held_or};
 ghost use Rattle.timeline.specs.declared.timeline.At.{At};
-ghost use Rattle.group.specs.Items.{item_label, item_calls, too_many, built_by, handed_out, hands_out, Gives};
+ghost use Rattle.timeline.specs.Placements.{empty};
+ghost use Rattle.group.specs.Items.{item_label, item_calls, too_many, built_by, hands_out, Gives};
 
 use refusal::Refusal;
 use steps::MAX_ENTRIES;
 use timeline::timeline::{At, Timeline};
 
-// The answer of a builder; where it is refused, the timeline is empty. No Result: a refused builder hands out the empty panel (paper 01).
+// The answer of a builder; where it is refused, the panel is empty. No Result: a refused builder hands out the empty panel (paper 01).
 #[derive(Clone, Copy)]
-pub struct Built {
+pub struct Built<P> {
     pub refusal: Option<Refusal>,
-    pub timeline: Timeline,
+    pub panel: P,
 }
 
-// What was built, or the empty timeline where that was refused.
-impl From<Result<Timeline, Refusal>> for Built {
-    ghost from_gives = { λ answer built. handed_out built ≡ hands_out answer };
+// What was built, or the empty timeline where that was refused: as it is, or as a group.
+impl<P: From<Timeline>> From<Result<Timeline, Refusal>> for Built<P> {
+    ghost from_gives = { λ answer built. (number_if built.refusal ≡ number_in answer) × P.from_gives (held_or empty answer) built.panel };
 
-    fn from(answer: Result<Timeline, Refusal>) -> Built {
-        match answer {
-            Ok(timeline) => Built {
-                refusal: None,
-                timeline,
-            },
-            Err(refusal) => Built {
-                refusal: Some(refusal),
-                timeline: Timeline::new(),
-            },
+    fn from(answer: Result<Timeline, Refusal>) -> Built<P> {
+        let refusal = answer.err();
+        let timeline = answer.unwrap_or(Timeline::new());
+        Built {
+            refusal,
+            panel: P::from(timeline),
         }
     }
 }
@@ -52,7 +49,7 @@ impl ItemLabel {
         ensures { take result.len result.bytes ≡ item_label index }
     {
         let mut bytes = *b"item_00000000000000000000";
-        let count = digits::put_decimal(index, &mut bytes, PREFIX);
+        let count = digits::put_decimal(index, &mut bytes, PREFIX).unwrap_or(0);
         ItemLabel {
             bytes,
             len: PREFIX + count,

@@ -5,10 +5,10 @@ ghost use Rattle.group.specs.Stagger.{staggered};
 
 use crate::item;
 use crate::item::Built;
-use timeline::timeline::At;
+use timeline::timeline::{At, Timeline};
 
 // A timeline whose entries start `delay` seconds after one another, labeled `item_0`, `item_1` and so on.
-pub fn stagger(durations: &[f32], delay: f32) -> Built
+pub fn stagger(durations: &[f32], delay: f32) -> Built<Timeline>
     ensures { handed_out result ≡ staggered durations.now delay }
 {
     let every = float32::max(delay, 0.0);

@@ -1,12 +1,12 @@
 -- A loop that gives each of the first n entries of three columns its step, and what it leaves of the track that they make.
 use Prim.Native.Nat.{ℕ, ◌+◌, ◌<◌, ◌≤◌}
 use mathlib.Core.Path.{◌≡◌, refl, sym, ap, subst, ◌∙◌}
-use mathlib.Core.Bool.{Bool, false}
+use mathlib.Core.Bool.{Bool, false, not, ◌&&◌}
 use mathlib.Core.List.{List, map}
 use native.Mathlib.Omega.{arith}
 use lib.ListN.{length, get_or, set, length-set, length-map}
 use lib.Ieee.{Float, nan}
-use Rattle.steps.specs.Rows.{ruled}
+use Rattle.steps.specs.Rows.{ruled, ticked}
 use Rattle.steps.specs.Slices.{over}
 use Rattle.steps.specs.declared.Entry.{Entry}
 use Rattle.steps.specs.declared.Row.{Row}
@@ -24,7 +24,7 @@ use Rattle.track.specs.Columns.{entry_of, first_of, track_of, with_clock_at}
 use Rattle.track.specs.Updates.{ticks}
 use Rattle.track.proofs.Marks.{no_entry, no_step}
 use Rattle.track.proofs.Columns.{first_at, own, put}
-use Rattle.track.proofs.Ticks.{length-ticks}
+use Rattle.track.proofs.Ticks.{length-ticks, turn_at}
 use Rattle.player.specs.declared.engine.Player.{Player}
 use Rattle.player.specs.Answered.{playing_in, SameColumns}
 use Rattle.player.specs.Loops.{first_in, ticks_in, SentIn, SentTo}
@@ -132,6 +132,25 @@ module _ (n : ℕ) (xs : List Stepped) (ss ds : List Float) (m₀ : List Bool) (
             places = front-all i (places_of xs) p₀ p (omega arith) inv.places ∙ ap (λ (ys : List _). over ys p₀) (sym (map-map (λ (r : Row). r.place) (λ (s : Stepped). s.row) xs));
           },
         )
+
+-- ---- a turn of a tick
+
+module _ (n : ℕ) (step : Step) (spans : Spans) (ms : List Bool) (rs : List ℕ) where
+  abbrev es : List Entry
+  es = first_in n spans ms
+
+  abbrev ss : List Stepped
+  ss = ticks_in n step spans ms rs
+
+  pub each-step : length ss ≡ length es
+  each-step = length-ticks step.prev step.next es rs
+
+  -- what it knows of the entry i, which it has read, and stepped
+  pub turn : (i : ℕ) → i < length es → i < length rs → (e : Entry) (s : Stepped) → e ≡ get_or es i no_entry → s ≡ ticked step.prev step.next e (get_or rs i 0)
+      → (s ≡ get_or ss i no_step) × ((not e.done && s.done) ≡ (not (get_or es i no_entry).done && (get_or ss i no_step).done))
+  turn i h k e s here steps =
+      let own = turn_at step.prev step.next es rs i h k e s here steps in
+      (own, ap (λ (x : Entry). not x.done && s.done) here ∙ ap (λ (y : Stepped). not (get_or es i no_entry).done && y.done) own)
 
 -- ---- what the loop leaves of the player
 

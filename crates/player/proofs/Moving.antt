@@ -1,8 +1,8 @@
 -- Play, reset and the seeks: refused by 3, or sent by a rule.
 use Prim.Native.Nat.{ℕ}
-use mathlib.Core.Path.{◌≡◌, refl}
+use mathlib.Core.Path.{◌≡◌}
 use mathlib.Core.Bool.{Bool}
-use mathlib.Core.List.{List, map, foldl}
+use mathlib.Core.List.{map, foldl}
 use lib.ListN.{length}
 use lib.Ieee.{Float}
 use Rattle.float32.specs.Helpers.{zero_f, max_f}
@@ -46,15 +46,15 @@ module _ (p : Player) {n : ℕ} (en : n ≡ entries_in p.head.count (length p.sp
     short = short_in n (length r.kinds.now) (length r.amounts.now) (length r.places.now)
 
     -- refused: nothing has moved
-    pub moves-refused : {c : Clock} {rule : Rule} {o : TrackOut} → sent t c rule (room_in r) ≡ o → (e : Refusal) → y ≡ Err e → {x : Result Unit Refusal} → x ≡ Err e
+    pub moves-refused : (c : Clock) (rule : Rule) {o : TrackOut} → sent t c rule (room_in r) ≡ o → (e : Refusal) → y ≡ Err e → {x : Result Unit Refusal} → x ≡ Err e
         → SameColumns p p × SameSlices r r × MovesBy o (number_in x) t r.kinds.now r.kinds.now r.amounts.now r.amounts.now r.places.now r.places.now
-    moves-refused {c} {rule} {o} eo e f ex =
+    moves-refused c rule {o} eo e f ex =
         let z = refused RowsTooShort short ey f in
         (same_player p, same_slices r, rw (ex, z.1) (moves-short t c rule r.kinds.now r.amounts.now r.places.now all_own o eo z.0))
 
     -- accepted: every entry has its row and its mark
-    pub moves-on : {c : Clock} {rule : Rule} {o : TrackOut} → sent t c rule (room_in r) ≡ o → y ≡ Ok tt → {q : Player} {s : Rows} → Left p q c → SentTo (map (ruled rule) (first_in n p.spans p.marks.now)) p.marks.now q.marks.now r s
+    pub moves-on : {c : Clock} (rule : Rule) {o : TrackOut} → sent t c rule (room_in r) ≡ o → y ≡ Ok tt → {q : Player} {s : Rows} → Left p q c → SentTo (map (ruled rule) (first_in n p.spans p.marks.now)) p.marks.now q.marks.now r s
         → SameColumns p q × SameSlices r s × MovesBy o accepted (playing_in q) r.kinds.now s.kinds.now r.amounts.now s.amounts.now r.places.now s.places.now
-    moves-on {c} {rule} {o} eo f {q} {s} l sent-to =
+    moves-on {c} rule {o} eo f {q} {s} l sent-to =
         let z = applied p all_own l rule sent-to in
         (same_columns l, z.1.0, moves-sent t c rule r.kinds.now r.amounts.now r.places.now all_own o eo (passed RowsTooShort short ey f) (playing_in q) s.kinds.now s.amounts.now s.places.now z.0 z.1.1)

@@ -10,6 +10,7 @@ use lib.Ieee.{Float}
 use Rattle.steps.specs.declared.Entry.{Entry}
 use Rattle.steps.specs.declared.Row.{Row}
 use Rattle.completions.specs.Columns.{most_entries}
+use Rattle.track.specs.declared.rows.Rows.{Rows}
 use Rattle.track.specs.declared.track.Track.{Track}
 use Rattle.track.specs.declared.track.Playhead.{Playhead}
 use Rattle.track.specs.Tracks.{live, Sent}
@@ -18,7 +19,9 @@ use Rattle.track.specs.Calls.{room_of, short_in, Preview, TrackOut, updated, tra
 use Rattle.track.specs.Answers.{ShowsBy}
 use Rattle.track.proofs.Columns.{own, roomy}
 use Rattle.track.proofs.Outcomes.{shows}
-use Rattle.player.specs.Loops.{counted_at}
+use Rattle.player.specs.declared.engine.Player.{Player}
+use Rattle.player.specs.Answered.{playing_in}
+use Rattle.player.specs.Loops.{first_in, SentIn}
 
 -- ---- a copy of the first n marks
 
@@ -36,6 +39,10 @@ first_same n ss ds ms ms' e = sym (first_part n ss ds ms') ∙ ap (first_of n ss
 -- a copy of the first n marks over the front of another list
 pub front_copied : (n : ℕ) (ms xs rest : List Bool) → n ≤ length ms → xs ≡ take n ms → take n (xs ++ rest) ≡ take n ms
 front_copied n ms xs rest h e = ap (λ (ys : List Bool). take n (ys ++ rest)) e ∙ take_at (take n ms) rest n (length-take-le n ms h)
+
+-- the playhead that plays the first n entries alone
+abbrev counted_at : Playhead → ℕ → Playhead
+counted_at h n = record { count = n; clock = h.clock; looping = h.looping }
 
 module _ (h : Playhead) (ss ds : List Float) (ms : List Bool) (n : ℕ) (all : n ≡ length (live (track_of h ss ds ms))) (ms' : List Bool) (e : take n ms' ≡ take n ms) where
   abbrev t : Track
@@ -58,8 +65,8 @@ module _ (h : Playhead) (ss ds : List Float) (ms : List Bool) (n : ℕ) (all : n
 
 -- ---- what an update sends
 
-module _ (h : Playhead) (ss ds : List Float) (ms : List Bool) (n : ℕ) (all : n ≡ length (live (track_of h ss ds ms))) (dt : Float) {k₀ k : List ℕ} {a₀ a p₀ p : List Float} where
-  -- rows of the first n entries, by what the update comes to
-  pub shown : {o : TrackOut} → updated (track_of h ss ds ms) dt [] ≡ o → (f : List Entry → List Row) → f (live (track_of h ss ds ms)) ≡ o.rows → Sent (f (first_of n ss ds ms)) k₀ k a₀ a p₀ p → Sent (updated (track_of h ss ds ms) dt []).rows k₀ k a₀ a p₀ p
-  shown eo f ef s =
-      subst (λ (rs : List Row). Sent rs k₀ k a₀ a p₀ p) (ap f (own h ss ds ms n all) ∙ ef ∙ sym (ap (λ (o : TrackOut). o.rows) eo)) s
+-- rows of the first n entries, by what the update comes to
+pub shown : (p : Player) {n : ℕ} → n ≡ length (live (playing_in p)) → (dt : Float) {o : TrackOut} → updated (playing_in p) dt [] ≡ o → (f : List Entry → List Row) → f (live (playing_in p)) ≡ o.rows
+    → {r s : Rows} → SentIn (f (first_in n p.spans p.marks.now)) r s → SentIn (updated (playing_in p) dt []).rows r s
+shown p {n} all dt eo f ef {r} {s} x =
+    subst (λ (rs : List Row). SentIn rs r s) (ap f (own p.head p.spans.starts.now p.spans.durations.now p.marks.now n all) ∙ ef ∙ sym (ap (λ (o : TrackOut). o.rows) eo)) x

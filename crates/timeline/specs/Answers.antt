@@ -58,8 +58,16 @@ MovesOn t call r rows =
     × MoveAnswer (step t (call (lent_room rows))) t r
     rows.entry.now.kinds.now rows.exit.now.kinds.now rows.entry.now.amounts.now rows.exit.now.amounts.now rows.entry.now.places.now rows.exit.now.places.now
 
--- the calls of a closure, by what they can come to, are this call of a player
-abbrev pub Makes : (MutBor Player → MutBor Rows → Result Unit Refusal → MutBor Player → MutBor Rows → Type 0) → (Room → TrackCall) → Type 0
+-- what a call of a closure over a player and rows can come to: the answer, and what is left of both
+abbrev pub Course : Type 1
+Course = MutBor Player → MutBor Rows → Result Unit Refusal → MutBor Player → MutBor Rows → Type 0
+
+-- it leaves the player's marks in the slice where they were
+abbrev pub Keeps : Course → Type 0
+Keeps post = (p : MutBor Player) (r : MutBor Rows) (x : Result Unit Refusal) (q : MutBor Player) (s : MutBor Rows) → post p r x q s → q.now.marks.ghost_name ≡ p.now.marks.ghost_name
+
+-- it is this call of the player
+abbrev pub Makes : Course → (Room → TrackCall) → Type 0
 Makes post call = (p : MutBor Player) (r : MutBor Rows) (x : Result Unit Refusal) (q : MutBor Player) (s : MutBor Rows) → post p r x q s → MovesInPlace p.now call x q.now r.now s.now
 
 abbrev pub Moves : Timeline → (Room → TrackCall) → Result Timeline Refusal → LentRows → Type 0

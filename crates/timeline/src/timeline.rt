@@ -10,7 +10,7 @@ ghost use Rattle.track.specs.Tracks.{live, with_marks, track_base, track_run, pr
 ghost use Rattle.track.specs.Calls.{Room, TrackCall, Looping, SetTimeScale, Play, Pause, Resume, Reset, Seek, SeekAbs, with_clock};
 ghost use Rattle.timeline.specs.Placements.{empty, live_labels, start_found, named_start, resolve_start, grown};
 ghost use Rattle.timeline.specs.Calls.{Add, AddBoxed, AddAtLabel, On, added_at, with_track, step};
-ghost use Rattle.timeline.specs.Answers.{Adds, Makes, Moves, Updates, Shows};
+ghost use Rattle.timeline.specs.Answers.{Adds, Keeps, Makes, Moves, Updates, Shows};
 ghost use Rattle.timeline.specs.Introspections.{introspected};
 
 use crate::introspection::{AnimationIntrospection, AnimationKind};
@@ -286,7 +286,8 @@ impl Timeline {
         rows: &mut Rows<'_>,
         make: F,
     ) -> Result<Timeline, Refusal>
-        requires { F.IsAlwaysCallable make }
+        requires callable { F.IsAlwaysCallable make }
+        requires keeps { Keeps (F.post make) }
         ensures { (call : Room → TrackCall) → Makes (F.post make) call → Moves self call result rows }
     {
         let c = &mut Columns::of(self.track);
@@ -295,8 +296,9 @@ impl Timeline {
             spans: c.held.spans(),
             marks: &mut c.marks,
         };
-        make(&mut player, rows)?;
+        let made = make(&mut player, rows);
         let clock = player.head.clock;
+        made?;
         Ok(self.left(clock, &c.marks))
     }
 
@@ -304,9 +306,7 @@ impl Timeline {
     fn left(self, clock: Clock, marks: &[bool]) -> Timeline
         ensures { result ≡ with_track self (with_marks self.track clock marks.now) }
     {
-        let before = self.track;
-        let track = before.with_marks(clock, marks);
-        self.with_track(track)
+        self.with_track(self.track.with_marks(clock, marks))
     }
 
     // The run: the base times the number of passes, infinite for the endless modes.
@@ -317,6 +317,7 @@ impl Timeline {
     }
 
     // Advances by dt seconds, with each leaf's reply (0 stopped, 1 running). The list takes the numbers of the entries that completed.
+    // Not by `moved`, tried: of a list that a closure takes along a proof knows nothing after the call.
     pub fn update(
         self,
         dt: f32,
@@ -332,9 +333,9 @@ impl Timeline {
             spans: c.held.spans(),
             marks: &mut c.marks,
         };
-        let answer = player.update(dt, replies, list, rows)?;
+        let made = player.update(dt, replies, list, rows);
         let clock = player.head.clock;
-        Ok((answer, self.left(clock, &c.marks)))
+        Ok((made?, self.left(clock, &c.marks)))
     }
 
     // The rows that such an update would write, with room enough; the timeline stays.

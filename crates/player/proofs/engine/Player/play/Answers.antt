@@ -9,13 +9,15 @@ use Rattle.player.proofs.engine.Player.play.Goals as goal
 
 pub returns-in_err-check : goal.returns-in_err-check
 returns-in_err-check c =
-    let g = c.args in
-    moves-refused g.self.now c.entries-n.ensures g.rows.now c.check.ensures (play-sent (playing_in g.self.now) (room_in g.rows.now) refl refl refl) _ (search rules) (search rules)
+    let p = c.args.self.now in
+    let r = c.args.rows.now in
+    moves-refused p c.entries-n.ensures r c.check.ensures _ _ (play-sent (playing_in p) (room_in r) refl refl refl) c.in_err-check.field-0.0 (search rules) (search rules)
 
 pub returns : goal.returns
 unfolding track_of
 returns c =
     let p = c.args.self.now in
     let r = c.args.rows.now in
-    let eb = base-own p c.entries-n.ensures c.run.ensures.1 in
-    moves-on p c.entries-n.ensures r c.check.ensures (play-sent (playing_in p) (room_in r) eb c.played.ensures (rw c.run.ensures.0 at c.play_rule.ensures)) (search rules) (record { head = c.with_clock.ensures; spans = refl; marks = refl }) c.apply.ensures
+    let run = c.run-run.ensures in
+    let eb = base-own p c.entries-n.ensures run.1 in
+    moves-on p c.entries-n.ensures r c.check.ensures _ (play-sent (playing_in p) (room_in r) eb c.played.ensures (rw run.0 at c.play_rule-rule.ensures)) (search rules) (record { head = c.with_clock-self.ensures; spans = refl; marks = refl }) c.apply.ensures

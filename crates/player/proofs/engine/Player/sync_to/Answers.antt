@@ -1,28 +1,25 @@
-use mathlib.Core.Path.{◌≡◌, ap}
+use mathlib.Core.Path.{◌≡◌, refl}
 use Rattle.std.proofs.Common.{arith, Some, None, Err}
 use Rattle.refusal.specs.declared.Refusal.TheVariants.{ListTooShort}
 use Rattle.track.proofs.Columns.{roomy}
-use Rattle.player.proofs.Checks.{same_slices}
-use Rattle.player.proofs.Answers.{sync-over, sync-told}
-use Rattle.player.specs.Answered.{answer_in, clock_of}
+use Rattle.player.proofs.Answers.{left-at, sent-at, sync-over, sync-told}
 use Rattle.player.proofs.engine.Player.sync_to.Goals as goal
 
 pub returns-in_err-listed : goal.returns-in_err-listed
 returns-in_err-listed c =
-    let g = c.args in
     let over : c.between-found.result ≡ None = grind arith in
     let answer : c.from_residual.result ≡ Err ListTooShort = grind arith in
-    (same_slices g.rows.now, sync-over g.head g.spans.starts.now g.spans.durations.now g.marks.now g.n c.requires.0 g.base g.next c.requires.2 c.between-found.ensures over (ap answer_in answer) (ap (clock_of g.head) answer))
+    sync-over c.args.self.now c.requires.0 c.args.run.base c.args.next _ c.requires.2 c.requires.3 c.first.result c.first.ensures c.between-found.ensures over answer
 
 pub apply-requires : goal.apply-requires
 apply-requires c =
-    let g = c.args in
-    let wide = roomy g.head g.spans.starts.now g.spans.durations.now g.marks.now g.n c.requires.0 in
+    let p = c.args.self.now in
+    let wide = roomy p.head p.spans.starts.now p.spans.durations.now p.marks.now c.args.n c.requires.0 in
     ((wide.0, wide.1, wide.2), c.requires.1)
 
 pub returns : goal.returns
 returns c =
-    let g = c.args in
+    let p = c.args.self.now in
     let within : c.between-found.result ≡ Some c.in_ok-listed.listed = grind arith in
-    let x = c.apply.ensures in
-    (x.1.0, sync-told g.head g.spans.starts.now g.spans.durations.now g.marks.now g.n c.requires.0 g.base g.next c.requires.2 c.between-found.ensures within c.reach_of-to.ensures c.local_time.ensures c.reached.ensures.0 c.reached.ensures.1 (x.0, x.1.1))
+    let moved = c.reach.ensures in
+    sync-told p c.requires.0 c.args.run.base c.args.next _ c.requires.2 c.requires.3 c.first.result c.first.ensures c.between-found.ensures within c.reach_of-to.ensures c.local_time.ensures (left-at p _ _ refl moved.1) moved.0 (sent-at p _ _ _ moved.1 c.apply.ensures)

@@ -1,11 +1,11 @@
--- `preview` is the step that `Preview` says.
-use mathlib.Core.Path.{◌≡◌, refl}
+-- the preview is the step that `Preview` says.
+use mathlib.Core.Path.{◌≡◌}
 use Rattle.std.proofs.Common.{rules}
 use lib.ListN.{length}
 use Rattle.steps.specs.Times.{max_entries}
 use Rattle.steps.proofs.Lists.{unmapped}
 use Rattle.track.specs.Calls.{Preview}
-use Rattle.timeline.proofs.Doors.{door-shows}
+use Rattle.timeline.proofs.Doors.{seated, door-shows}
 use Rattle.timeline.proofs.timeline.Timeline.preview.Goals as goal
 
 pub returns : goal.returns
@@ -14,4 +14,4 @@ returns c =
     let own = c.well_formed.0.0 in
     let long : length t.track.entries ≡ max_entries = search (unmapped, rules) in
     let x = c.preview.ensures in
-    (x.0, door-shows t long (Preview _ _) refl c.of-c.ensures _ _ _ _ _ _ x.1)
+    (x.0, door-shows t (Preview _ _) (seated t long c.of-c.ensures c.spans.ensures.0 c.spans.ensures.1) x.1)

@@ -5,24 +5,24 @@ use lib.ListN.{length}
 use Rattle.steps.specs.Times.{max_entries}
 use Rattle.steps.proofs.Lists.{unmapped}
 use Rattle.track.specs.Calls.{Update}
-use Rattle.timeline.proofs.Doors.{door-updates, door-stays}
+use Rattle.timeline.proofs.Doors.{seated, door-updates, door-stays}
 use Rattle.timeline.proofs.timeline.Timeline.update.Goals as goal
 
-pub returns-in_err-u : goal.returns-in_err-u
-returns-in_err-u c =
+pub returns-in_err-made : goal.returns-in_err-made
+returns-in_err-made c =
     let t = c.args.self in
     let own = c.well_formed.0.0 in
     let long : length t.track.entries ≡ max_entries = search (unmapped, rules) in
-    let why : c.update.result ≡ Err c.in_err-u.field-0.0 = search rules in
-    let answer : c.from_residual.result ≡ Err c.in_err-u.field-0.0 = search rules in
-    let x = c.update.ensures in
-    (x.0, rw answer (door-stays t long (Update _ _ _ _) refl c.of.ensures _ _ _ _ _ _ _ _ _ (rw why at x.1)))
+    let why : c.update-made.result ≡ Err c.in_err-made.field-0.0 = search rules in
+    let answer : c.from_residual.result ≡ Err c.in_err-made.field-0.0 = search rules in
+    let x = c.update-made.ensures in
+    (x.1, rw answer (door-stays t (Update _ _ _ _) (seated t long c.of.ensures c.spans.ensures.0 c.spans.ensures.1) (rw why at x.2)))
 
 pub returns : goal.returns
 returns c =
     let t = c.args.self in
     let own = c.well_formed.0.0 in
     let long : length t.track.entries ≡ max_entries = search (unmapped, rules) in
-    let passes : c.update.result ≡ Ok c.in_ok-u.u = search rules in
-    let x = c.update.ensures in
-    (x.0, door-updates t long (Update _ _ _ _) refl c.of.ensures _ _ _ _ _ _ _ _ _ _ (rw passes at x.1) c.left.ensures)
+    let passes : c.update-made.result ≡ Ok c.in_ok-made.field-0 = search rules in
+    let x = c.update-made.ensures in
+    (x.1, door-updates t long (Update _ _ _ _) c.of.ensures _ _ refl c.spans.ensures.0 c.spans.ensures.1 refl x.0 c.left.ensures (rw passes at x.2))
