@@ -3,7 +3,7 @@ use timeline::timeline::{At, Timeline};
 use tween::Loop;
 
 // What is timed, in the order of its number in the input. The same jobs stand in the oracle.
-#[derive(Clone, Copy)]
+#[derive(Clone, Copy, PartialEq, Eq, Debug)]
 pub(crate) enum Job {
     // Updates in steps that reach nine tenths of the base in all.
     UpdateOnceSmall,
@@ -23,9 +23,9 @@ pub(crate) enum Job {
     UpdateOnce,
 }
 
-impl Job {
-    // The job that the last digit of a number means.
-    pub(crate) fn from_number(number: u8) -> Job {
+// The job that the last digit of a number means.
+impl From<u8> for Job {
+    fn from(number: u8) -> Job {
         match number % 10 {
             0 => Job::UpdateOnceSmall,
             1 => Job::UpdateOnceTenths,
@@ -39,7 +39,9 @@ impl Job {
             _ => Job::UpdateOnce,
         }
     }
+}
 
+impl Job {
     fn mode(self) -> Loop {
         match self {
             Job::UpdateForever | Job::SeekAbsForever | Job::LongestWalk => Loop::Forever,

@@ -12,13 +12,14 @@ mod jobs;
 mod rows;
 
 use jobs::Job;
+use rows::sum;
 use std::io::Print;
 use streams::read_full;
 
 const INPUT: usize = 6;
 
 // What the calls come to: a time, and a sum of the rows that were looked at.
-#[derive(Clone, Copy)]
+#[derive(Clone, Copy, Default)]
 pub struct Came {
     time: f32,
     seen: u32,
@@ -40,15 +41,20 @@ fn main(rt: HostRuntime) {
 }
 
 fn come_to(number: u8, entries: u8, turns: u32) -> Came {
-    let job = Job::from_number(number);
-    let unseen = |time| Came { time, seen: 0 };
-    if matches!(job, Job::Add) {
-        return unseen(jobs::adds(entries, turns));
+    let job = Job::from(number);
+    if job == Job::Add {
+        return Came {
+            time: jobs::adds(entries, turns),
+            seen: 0,
+        };
     }
     let t = job.built(entries);
-    if number < 20 {
-        in_place::come_to(t, job, number > 9, turns)
-    } else {
-        unseen(by_value::come_to(t, job, turns))
-    }
+    let n = t.entry_count();
+    let mut seen = 0;
+    let time = match number / 10 {
+        0 => in_place::come_to(t, job, turns, |_| {}),
+        1 => in_place::come_to(t, job, turns, |rows| seen = sum(n, rows, seen)),
+        _ => by_value::come_to(t, job, turns),
+    };
+    time.map_or(Came::default(), |time| Came { time, seen })
 }

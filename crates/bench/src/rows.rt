@@ -1,50 +1,76 @@
 // What is written, and what is seen of it. What nobody looks at would not be written: the compiler would leave that out. One look,
 // after the last call, keeps the writing of every call.
+use completions::MOST_ENTRIES;
 use steps::MAX_ENTRIES;
 use track::rows::Rows;
 
-// Room for the rows of a call.
+// Room for what is lent to the calls of a job.
 #[derive(Drop)]
-pub(crate) struct Sent {
+pub(crate) struct Room {
+    replies: [u8; MAX_ENTRIES],
+    list: [u8; MOST_ENTRIES],
     kinds: [u8; MAX_ENTRIES],
     amounts: [f32; MAX_ENTRIES],
     places: [f32; MAX_ENTRIES],
 }
 
-impl Sent {
-    pub(crate) fn new() -> Sent {
-        Sent {
+// What is lent: the replies of leaves that all run, a list, and rows.
+#[derive(Drop)]
+pub(crate) struct Lent<'a> {
+    pub(crate) replies: &'a [u8],
+    pub(crate) list: &'a mut [u8],
+    pub(crate) rows: Rows<'a>,
+}
+
+impl Room {
+    pub(crate) fn new() -> Room {
+        Room {
+            replies: [1; MAX_ENTRIES],
+            list: [0; MOST_ENTRIES],
             kinds: [0; MAX_ENTRIES],
             amounts: [0.0; MAX_ENTRIES],
             places: [0.0; MAX_ENTRIES],
         }
     }
 
-    pub(crate) fn lend(&mut self) -> Rows<'_> {
-        let Sent {
+    pub(crate) fn lend(&mut self) -> Lent<'_> {
+        let Room {
+            replies,
+            list,
             kinds,
             amounts,
             places,
         } = self;
-        Rows {
-            kinds,
-            amounts,
-            places,
+        Lent {
+            replies,
+            list,
+            rows: Rows {
+                kinds,
+                amounts,
+                places,
+            },
         }
     }
 }
 
-// Whether the first row is one that a call can send.
-pub(crate) fn is_sent(rows: &Rows<'_>) -> bool {
-    rows.kinds.first().is_some_and(|kind| *kind <= 13)
-        && rows.amounts.first().is_some_and(|amount| *amount >= 0.0)
-        && rows.places.first().is_some_and(|place| *place <= 1.0)
+impl Lent<'_> {
+    // Whether a call on this many entries can have written it.
+    pub(crate) fn is_written(&self, entries: usize) -> bool {
+        is_listed(self.list, entries) && is_sent(&self.rows)
+    }
 }
 
 // Whether a list of this many entries can start so; one that was not written starts with 0.
-pub(crate) fn is_listed(list: &[u8], entries: usize) -> bool {
+fn is_listed(list: &[u8], entries: usize) -> bool {
     list.first()
         .is_some_and(|entry| usize::from(*entry) <= entries)
+}
+
+// Whether the first row is one that a call can send.
+fn is_sent(rows: &Rows<'_>) -> bool {
+    rows.kinds.first().is_some_and(|kind| *kind <= 13)
+        && rows.amounts.first().is_some_and(|amount| *amount >= 0.0)
+        && rows.places.first().is_some_and(|place| *place <= 1.0)
 }
 
 // A row, as it goes into the sum.
@@ -64,9 +90,8 @@ fn shifted(seen: u32) -> u32 {
 // A sum of the rows of n entries with what was seen before.
 pub(crate) fn sum(n: usize, rows: &Rows<'_>, before: u32) -> u32 {
     let rows = rows.kinds.iter().zip(&*rows.amounts).zip(&*rows.places);
-    let mut seen = shifted(before);
-    for ((kind, amount), place) in rows.take(n) {
-        seen ^= bits_of(*kind, *amount, *place);
-    }
-    seen
+    rows.take(n)
+        .fold(shifted(before), |seen, ((kind, amount), place)| {
+            seen ^ bits_of(*kind, *amount, *place)
+        })
 }

@@ -22,7 +22,7 @@ pub enum TimelineState {
 }
 
 // Seconds of play so far, the state, the time scale, and whether the whole-run completion has fired since the last reset.
-#[derive(Clone, Copy, Debug)]
+#[derive(Clone, Copy, Debug, PartialEq)]
 pub struct Clock {
     pub elapsed: f32,
     pub state: TimelineState,
@@ -31,7 +31,7 @@ pub struct Clock {
 }
 
 // Where an update comes to: the elapsed time, and whether the run ends there.
-#[derive(Clone, Copy, Debug)]
+#[derive(Clone, Copy, Debug, PartialEq)]
 pub struct Reach {
     pub elapsed: f32,
     pub ended: bool,

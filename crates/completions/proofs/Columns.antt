@@ -45,10 +45,12 @@ module _ (s t : Zip (Iter Float) (Iter Float)) (r : Option (Bor Float × Bor Flo
 -- every run of the iterator gives the ends
 pub gives_ends : (l : List Float) (s : Zip (Iter Float) (Iter Float)) → left s ≡ l → AlwaysYields (zips fronts fronts) (λ p. add binary32 p.0.now p.1.now) s l
 gives_ends [] s e = λ x j h. absurd (nil≢cons (sym e ∙ left_more s j (Some x) x refl h))
-gives_ends (y ∷ ys) s e =
-    (λ j h. absurd (nil≢cons (sym (left_none s j None refl h) ∙ e)), λ x j h.
-    let k = sym (left_more s j (Some x) x refl h) ∙ e in
-    (head-eq_of_cons-eq k, gives_ends ys j (tail-eq_of_cons-eq k)))
+gives_ends (y ∷ ys) s e = (
+  λ j h. absurd (nil≢cons (sym (left_none s j None refl h) ∙ e)),
+  λ x j h.
+      let k = sym (left_more s j (Some x) x refl h) ∙ e in
+      (head-eq_of_cons-eq k, gives_ends ys j (tail-eq_of_cons-eq k)),
+)
 
 -- ---- the first entries of both columns
 

@@ -5,6 +5,7 @@ use mathlib.Core.List.{List, [], ◌∷◌}
 use Prim.Native.Nat.{ℕ, zero, suc, ◌^◌}
 use lib.Ieee.{Float, binary32, is_nan, add, lt, le}
 use borrow.Author.Tests.{not-false}
+use Rattle.std.proofs.lemmas.Bool.{false_from_ne_true}
 use Rattle.float32.specs.Helpers.{zero_f}
 use Rattle.float32.proofs.Order.{lt-is, le-no_nan, lt-no_nan, lt-nan_left, not_le_of_lt}
 use Rattle.tween.specs.declared.loop_mode.Loop.{Loop}
@@ -28,12 +29,8 @@ module _ (w : Walk) (none : (start end : Float) → completes w start end ≡ fa
 
 -- ---- NaN: no comparison with it passes
 
-refuted : (b : Bool) → (b ≡ true → ⊥) → b ≡ false
-refuted true h = absurd (h refl)
-refuted false h = refl
-
 le-nan : (x y : Float) → is_nan y ≡ true → le x y ≡ false
-le-nan x y h = refuted (le x y) (λ t. true≢false (sym h ∙ (le-no_nan x y t).1))
+le-nan x y h = false_from_ne_true (le x y) (λ t. true≢false (sym h ∙ (le-no_nan x y t).1))
 
 nan_none : (w : Walk) → (is_nan w.step.prev || is_nan w.step.next) ≡ true → (start end : Float) → completes w start end ≡ false
 unfolding completes

@@ -11,6 +11,7 @@ pub mod Drift
 pub mod Starts
 pub mod Fuel
 pub mod Turns
+pub mod InRange
 pub mod Longest
 pub mod Prompt
 pub mod Claims

@@ -1,7 +1,7 @@
 -- In which cycles of a walk the longest entry completes: in all but the first few and the last few.
 use mathlib.Core.Path.{◌≡◌, refl, ap, sym, subst, ◌∙◌}
 use mathlib.Core.Logic.{◌⊎◌, inl, inr}
-use mathlib.Core.Bool.{Bool, true, false, ◌||◌, true≢false, or-true}
+use mathlib.Core.Bool.{Bool, true, false, true≢false, or-true}
 use mathlib.Core.List.{List, [], ◌∷◌, foldl, map}
 use Prim.Native.Nat.{ℕ, suc, ◌+◌, ◌*◌, ◌≤◌, ◌<◌}
 use native.Mathlib.Nat.{le_trans, le_of_eq, zero-lt-suc, mul-one, mul-pos, mul-le-mul_right}
@@ -19,6 +19,7 @@ use Rattle.float32.proofs.Order.{le_of_not_lt, lt-or_le, lt-no_nan}
 use Rattle.float32.proofs.MaxMin.{max-all}
 use Rattle.float32.proofs.Nonneg.{add-nonneg, nonneg_no_nan, nonneg_of_ge}
 use Rattle.float32.proofs.Grow.{add-ge, le-round}
+use Rattle.std.proofs.lemmas.Bool.{or_parts}
 use Rattle.steps.specs.Times.{two_f, end_at}
 use Rattle.steps.specs.declared.Entry.{Entry}
 use Rattle.completions.proofs.Starts as starts
@@ -90,13 +91,9 @@ above_of_above (fin true m e) y h k = absurd h
 above_of_above (fin false m e) y h k = above_of_le (fin false m e) y h k
 
 -- ---- the tests of the loop
-or-false : (a b : Bool) → (a || b) ≡ false → b ≡ false
-or-false true b h = absurd (true≢false h)
-or-false false b h = h
-
 no_break : (w : Walk) (c : ℕ) → stops_at w c ≡ false → lt w.step.next (cycle_start w c) ≡ false
 unfolding stops_at breaks_at
-no_break w c h = or-false (reaches w.max_cycles c) _ (or-false (eqb c last_cycle) _ h)
+no_break w c h = (or_parts (reaches w.max_cycles c) _ (or_parts (eqb c last_cycle) _ h).1).1
 
 stops : (w : Walk) (c : ℕ) → lt w.step.next (cycle_start w c) ≡ true → stops_at w c ≡ true
 unfolding stops_at breaks_at
@@ -115,6 +112,7 @@ module _ (w : Walk) (ends : List Float) (base : Float) (fit-b : T (fits binary32
   abbrev start : ℕ → Float
   start c = starts.start w.period fit up-p c
 
+  -- of `Starts`, at the walk's period: a module's parameters cannot be opened
   start-nonneg : (c : ℕ) → 0 < c → nonneg_f (start c) ≡ true
   start-nonneg = starts.start-nonneg w.period fit up-p
 

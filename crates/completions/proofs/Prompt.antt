@@ -27,16 +27,13 @@ use Rattle.completions.specs.Answers.{room_for, Listed}
 use Rattle.completions.specs.Completions.{last_cycle, breaks_at, cycles, walk_of, first_cycle, none_if, completions_in, completions_between}
 use Rattle.completions.specs.Prompt.{completions_within, most_cycles, turns_from, Prompt, PromptAnswer, FewTurns}
 use Rattle.completions.proofs.Ends.{base_of_ends}
+use Rattle.std.proofs.lemmas.Bool.{or_parts}
 use Rattle.completions.proofs.Fuel.{Lists, settled-from, enough-from, few-from}
 use Rattle.completions.proofs.Longest.{Has, largest_has, has_fits, le-double, lists}
 
 none_same : (n : ℕ) (b : Bool) (xs ys : List ℕ) → (b ≡ false → take n xs ≡ take n ys) → take n (none_if b xs) ≡ take n (none_if b ys)
 none_same n true xs ys h = refl
 none_same n false xs ys h = h refl
-
-or-both : (a b : Bool) → (a || b) ≡ false → (a ≡ false) × (b ≡ false)
-or-both true b h = absurd (true≢false h)
-or-both false b h = (refl, h)
 
 lt_of_not_le : (x y : Float) → is_nan x ≡ false → is_nan y ≡ false → le y x ≡ false → lt x y ≡ true
 lt_of_not_le x y p q h = elim (lt-or_le x y p q) [ inl l ↦ l | inr l ↦ absurd (true≢false (sym l ∙ h)) ]
@@ -118,9 +115,9 @@ module _ (mode : Loop) (es : List Entry) (prev next : Float) (room : ℕ) where
   same =
       none_same (room + 1) (is_nan prev || is_nan next) _ _ (λ (n : (is_nan prev || is_nan next) ≡ false).
       none_same (room + 1) (le next prev || (le (base_of es) zero_f || le w.period zero_f)) _ _ (λ (f : (le next prev || (le (base_of es) zero_f || le w.period zero_f)) ≡ false).
-      let a = or-both (is_nan prev) (is_nan next) n in
-      let b = or-both (le next prev) (le (base_of es) zero_f || le w.period zero_f) f in
-      walk_same (lt_of_not_le prev next a.0 a.1 b.0) (or-both (le (base_of es) zero_f) (le w.period zero_f) b.1).0))
+      let a = or_parts (is_nan prev) (is_nan next) n in
+      let b = or_parts (le next prev) (le (base_of es) zero_f || le w.period zero_f) f in
+      walk_same (lt_of_not_le prev next a.0 a.1 b.0) (or_parts (le (base_of es) zero_f) (le w.period zero_f) b.1).0))
 
 pub prompt : Prompt
 prompt mode es prev next room = same mode es prev next room

@@ -3,17 +3,19 @@
 // One pass over the cycles counts the completions, and stops as soon as they outnumber the lent list; a second pass writes them.
 #![tactic(auto)]
 
-ghost use Rattle.std.specs.Prelude.{◌≡◌, true, false, cond, ◌+◌, ◌≤◌, min, length, leb, Option, Some, None};
+ghost use Rattle.std.specs.Prelude.{◌≡◌, true, false, cond, ◌+◌, ◌-◌, ◌≤◌, max, length, leb, Option, Some, None};
 ghost use mathlib.Core.List.{foldl};
+ghost use Rattle.std.specs.Range.{range_inclusive_start, range_inclusive_end, range_inclusive_exhausted};
 ghost use Rattle.std.proofs.lemmas.List.Edits.{sets};
 ghost use Rattle.std.specs.Float.Ieee.{is_nan, lt};
 ghost use Rattle.float32.specs.Helpers.{zero_f, max_f};
 ghost use Rattle.steps.specs.Slices.{over};
-ghost use Rattle.completions.specs.Completions.{cycle_start, completes, in_cycle, breaks_at, stops_at, walk_of, first_cycle, cycles_from, completions_in, empty_at_nan};
+ghost use Rattle.completions.specs.Completions.{last_cycle, cycle_start, completes, in_cycle, breaks_at, walk_of, first_cycle, cycles_from, completions_in, empty_at_nan};
 ghost use Rattle.completions.specs.Columns.{most_entries, ends, first_ends};
 ghost use Rattle.completions.specs.Answers.{counted, Listed};
 ghost use Rattle.completions.specs.Claims.{Claims};
 
+use std::ops::RangeInclusive;
 use steps::{Run, Step};
 use tween::Loop;
 use tween::loop_mode::passes;
@@ -51,7 +53,7 @@ impl<'a> Spans<'a> {
 }
 
 // Columns of N entries, held.
-#[derive(Clone, Copy, Debug)]
+#[derive(Clone, Copy, Debug, PartialEq)]
 pub struct SpanArrays<const N: usize> {
     pub starts: [f32; N],
     pub durations: [f32; N],
@@ -67,6 +69,13 @@ impl<const N: usize> SpanArrays<N> {
             durations: &self.durations,
         }
     }
+}
+
+// The cycles from the first on: `cycle.saturating_add(1)`, and a break at u32::MAX, which so is gone over only where it is the first.
+fn onward(first: u32) -> RangeInclusive<u32>
+    ensures { (range_inclusive_start result ≡ first) × (range_inclusive_end result ≡ max first (last_cycle - 1)) × (range_inclusive_exhausted result ≡ false) }
+{
+    first..=first.max(u32::MAX - 1)
 }
 
 // What stays as it is over a walk.
@@ -123,14 +132,6 @@ impl Walk {
             || self.cycle_start(cycle) > self.step.next
     }
 
-    // Whether it does after the count went on to this cycle.
-    #[tactic(auto, unfolding(crate::specs::Completions::stops_at))]
-    fn stops_at(self, cycle: u32) -> bool
-        ensures { result ≡ stops_at self cycle }
-    {
-        cycle == u32::MAX || self.breaks_at(cycle)
-    }
-
     // `prev < completion && completion <= next`
     #[tactic(auto, unfolding(crate::specs::Completions::completes))]
     fn completes(self, start: f32, end: f32) -> bool
@@ -159,6 +160,7 @@ impl Walk {
         requires { (length (ends spans) ≤ most_entries) × (at + length (in_cycle self start 0 (ends spans)) ≤ length list.old) }
         ensures { (result ≡ at + length (in_cycle self start 0 (ends spans.entry))) × (list.new ≡ sets list.old at (in_cycle self start 0 (ends spans.entry))) }
     {
+        // by hand: a proof knows nothing of what `iter_mut` wrote
         let mut k = at;
         for (i, (s, d)) in spans.starts.iter().zip(spans.durations).enumerate() {
             if self.completes(start, *s + *d) {
@@ -173,35 +175,32 @@ impl Walk {
     fn count(self, spans: Spans, first: u32, room: usize) -> Option<usize>
         ensures { result ≡ counted (leb (length (cycles_from self (ends spans.entry) first)) room) (length (cycles_from self (ends spans.entry) first)) }
     {
-        // by `while`: the last cycle, u32::MAX, is gone over only where it is the first
         let mut m: usize = 0;
-        let mut cycle = first;
-        let mut stop = self.breaks_at(cycle);
-        while !stop {
+        for cycle in onward(first) {
+            if self.breaks_at(cycle) {
+                break;
+            }
             let k = self.count_cycle(spans, self.cycle_start(cycle));
             if room - m < k {
                 return None;
             }
             m += k;
-            cycle = cycle.saturating_add(1);
-            stop = self.stops_at(cycle);
         }
         Some(m)
     }
 
-    // The second pass: writes them over the front of a list that has room.
+    // The second pass: writes them over the front of a list that has room. Of the walk itself the passes share `onward` and one
+    // test; a walk that takes a closure would be longer, since its contract has to say which calls it makes.
     fn write(self, spans: Spans, first: u32, list: &mut [u8])
         requires { (length (ends spans) ≤ most_entries) × (length (cycles_from self (ends spans) first) ≤ length list.old) }
         ensures { list.new ≡ over (cycles_from self (ends spans.entry) first) list.old }
     {
-        // by `while`: the last cycle, u32::MAX, is gone over only where it is the first
         let mut m: usize = 0;
-        let mut cycle = first;
-        let mut stop = self.breaks_at(cycle);
-        while !stop {
+        for cycle in onward(first) {
+            if self.breaks_at(cycle) {
+                break;
+            }
             m = self.write_cycle(spans, self.cycle_start(cycle), list, m);
-            cycle = cycle.saturating_add(1);
-            stop = self.stops_at(cycle);
         }
     }
 
@@ -230,11 +229,10 @@ fn later(acc: f32, end: f32) -> f32
 pub fn base(spans: Spans) -> f32
     ensures { result ≡ foldl max_f zero_f (ends spans.entry) }
 {
-    spans
-        .starts
-        .iter()
-        .zip(spans.durations)
-        .fold(0.0, |base, (start, duration)| later(base, *start + *duration))
+    spans.starts.iter().zip(spans.durations).fold(
+        0.0,
+        |base, (start, duration)| later(base, *start + *duration),
+    )
 }
 
 // What of these entries, of which those past `MOST_ENTRIES` are left out, completes in a step, over the front of the list: how

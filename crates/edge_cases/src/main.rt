@@ -7,7 +7,7 @@ ghost use Rattle.std.specs.Prelude.{T};
 ghost use Rattle.edge_cases.specs.Edges.{all_hold, edges};
 
 use group::group::AnimationGroup;
-use refusal::{ACCEPTED, Refusal, number_in};
+use refusal::{Refusal, number_if, number_in};
 use std::io::{Print, Stdout};
 use timeline::timeline::{At, Timeline};
 use track::rows::Rows;
@@ -72,7 +72,7 @@ fn grid(cols: u32, rows: u32) -> StaggerPattern {
 // one is empty.
 fn staggered(stdout: Stdout, name: &str, cols: u32, rows: u32) {
     let built = AnimationGroup::stagger(&[1.0, 1.0, 1.0], grid(cols, rows));
-    line(stdout, name, built.refusal.map_or(ACCEPTED, |r| r.number()));
+    line(stdout, name, number_if(built.refusal));
     sent(stdout, built.group.timeline());
 }
 

@@ -56,11 +56,8 @@ add_small : (f : Format) (m : ℕ) (e : ℤ) (n : ℕ) (d : ℤ) → n ≡ 0 →
 unfolding add
 add_small f m e n d q = go (m * up e * down d) (n * up d * down e) (down e * down d) (zero_times (down e) (zero_times (up d) q))
   where
-    less : (a b : ℕ) → b ≡ 0 → a - b ≡ a
-    less a b z = omega arith
-
     go : (a b c : ℕ) → b ≡ 0 → cond (ltb a b) (round f true (b - a) c) (round f (false && ltb b a) (a - b) c) ≡ round f false a c
-    go a b c z = rw (le-ltb a b (omega arith), less a b z)
+    go a b c z = let less : a - b ≡ a = omega arith in rw (le-ltb a b (omega arith), less)
 
 -- x + y is no smaller than x
 pub add-ge : (f : Format) (x y : Float) → T (fits f x) → nonneg_f x ≡ true → nonneg_f y ≡ true → le x (add f x y) ≡ true

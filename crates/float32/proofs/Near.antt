@@ -9,7 +9,7 @@ use lib.Ieee.{size}
 use lib.Ieee.Digits.{size_reaches}
 use lib.Ieee.Nearest.{closest, nearest-ge}
 use lib.Ieee.Order.{drop, kept}
-use Rattle.float32.proofs.Order.{three}
+use Rattle.std.proofs.lemmas.Bool.{cases_order}
 use Rattle.float32.proofs.Digits.{closest-down, closest-up, closest-tie}
 
 -- x is no more than y and one part in 2 ^ 24 more, and z units
@@ -38,9 +38,9 @@ closest-within a b B =
     let r = a % b in
     let d : w * b + r ≡ a = div-add-mod' a b in
     let l : r < b = mod-lt a B in
-    elim (three (r * 2) b) [
-      | inl h ↦ rw (closest-down a b h) (omega arith, omega arith)
-      | inr (inl h) ↦
+    elim (cases_order (r * 2) b) [
+      | inr (inl h) ↦ rw (closest-down a b h) (omega arith, omega arith)
+      | inl h ↦
           let m : w % 2 * b ≤ 1 * b = mul-le-mul_right b (small w) in
           let s : (w + w % 2) * b ≡ w * b + w % 2 * b = add-mul w (w % 2) b in
           let o : 1 * b ≡ b = one-mul b in

@@ -1,13 +1,14 @@
 -- The calls of a script, made in place on what plays.
 use Prim.Native.Nat.{ℕ, ◌≤◌}
-use mathlib.Core.Path.{◌≡◌, refl, sym, ap, subst, ◌∙◌}
-use mathlib.Core.Bool.{Bool, true, false, cond, ◌||◌, false≢true}
+use mathlib.Core.Path.{◌≡◌, refl, sym, ap, ◌∙◌}
+use mathlib.Core.Bool.{Bool, true, false, cond}
 use mathlib.Core.List.{List, [], map}
 use native.Mathlib.Omega.{arith}
 use borrow.Author.Tests.{ne_eqb, ltb-false}
 use lib.Dec.{eqb, ltb}
 use lib.Ieee.{Float, eq}
 use lib.ListN.{length, length-map}
+use Rattle.std.proofs.lemmas.Bool.{or_parts}
 use Rattle.float32.specs.Helpers.{zero_f, min_f}
 use Rattle.tween.specs.LoopMode.{is_once}
 use Rattle.steps.specs.declared.Rule.{Rule}
@@ -17,112 +18,79 @@ use Rattle.steps.specs.Rows.{ruled}
 use Rattle.steps.specs.Times.{local_time}
 use Rattle.std.specs.Prelude.{Result, Ok, Err}
 use Rattle.refusal.specs.declared.Refusal.{Refusal}
-use Rattle.refusal.specs.Refusal.{accepted, number_in, held_or}
+use Rattle.refusal.specs.Refusal.{number_in, held_or}
 use Rattle.clock.specs.declared.Clock.{Clock}
 use Rattle.clock.specs.Clocks.{is_playing, next_elapsed, reach_of}
+use Rattle.track.specs.declared.rows.Rows.{Rows}
 use Rattle.track.specs.declared.track.Track.{Track}
 use Rattle.track.specs.declared.track.Playhead.{Playhead}
-use Rattle.track.specs.Columns.{track_of, with_clock_at}
 use Rattle.track.specs.Tracks.{live, track_base, rows_of}
 use Rattle.track.specs.Updates.{Advance, replies_bad, ticks, advanced, ended_at, playing}
-use Rattle.track.specs.Calls.{Room, SetTimeScale, Play, Pause, Resume, Reset, Seek, SeekAbs, Update, TrackOut, short, refused_if, fitted, updated, updated_with, sent, sought_to, rested, advanced_to, track_step, track_silent}
-use Rattle.track.specs.Answers.{Answer, MovesBy, UpdatesBy}
+use Rattle.track.specs.Calls.{Room, TrackOut, short, refused_if, fitted, updated, updated_with, sent, sought_to, rested, advanced_to, track_silent, track_step}
+use Rattle.track.specs.Answers.{SameSlices, Answer, MovesBy}
 use Rattle.track.proofs.Ticks.{length-ticks}
+use Rattle.player.specs.declared.engine.Player.{Player}
 use Rattle.player.specs.declared.engine.Updated.{Updated}
-use Rattle.player.specs.Answered.{answer_in, clock_of}
-use Rattle.script.specs.declared.Made.{Made}
-use Rattle.script.specs.Scripts.{outcome_in, left_by, MadeBy}
+use Rattle.player.specs.Answered.{playing_in, SameColumns, answer_in, Updates}
+use Rattle.player.proofs.Checks.{same_slices}
+use Rattle.player.proofs.Loops.{Left, same_columns}
+use Rattle.script.specs.Scripts.{outcome_in, MadeBy}
 
--- neither of two, where one of them fails
-pub or-false : (a b : Bool) → (a || b) ≡ false → (a ≡ false) × (b ≡ false)
-or-false true b e = (e, absurd (false≢true (sym e)))
-or-false false b e = (refl, e)
+-- what holds on either side of a test
+either : {A : Type 0} (P : A → Type 0) (b : Bool) (x y : A) → P x → P y → P (cond b x y)
+either P true x y h k = h
+either P false x y h k = k
 
--- ---- calls that list nothing
-
-cond-quiet : (b : Bool) (x y : TrackOut) → x.listed ≡ [] → y.listed ≡ [] → (cond b x y).listed ≡ []
-cond-quiet true x y e f = e
-cond-quiet false x y e f = f
-
-sent-quiet : (k : Track) (c : Clock) (rule : Rule) (r : Room) → (sent k c rule r).listed ≡ []
+-- a call by a rule lists nothing
+pub sent-quiet : (k : Track) (c : Clock) (rule : Rule) (r : Room) → (sent k c rule r).listed ≡ []
 unfolding sent
-sent-quiet k c rule r = cond-quiet (short r k) _ _ refl refl
-
-module _ (t : Track) (r : Room) where
-  pub play-quiet : (track_step t (Play r)).listed ≡ []
-  unfolding track_step
-  play-quiet = sent-quiet _ _ _ _
-
-  pub reset-quiet : (track_step t (Reset r)).listed ≡ []
-  unfolding track_step
-  reset-quiet = sent-quiet _ _ _ _
-
-  pub seek-quiet : (x : Float) → (track_step t (Seek x r)).listed ≡ []
-  unfolding track_step sought_to
-  seek-quiet x = sent-quiet _ _ _ _
-
-  pub seek-abs-quiet : (x : Float) → (track_step t (SeekAbs x r)).listed ≡ []
-  unfolding track_step sought_to
-  seek-abs-quiet x = sent-quiet _ _ _ _
-
--- the calls that set something
-module _ (t : Track) where
-  pub pause-set : track_step t Pause ≡ track_silent 0 (track_step t Pause).track
-  unfolding track_step
-  pause-set = refl
-
-  pub resume-set : track_step t Resume ≡ track_silent 0 (track_step t Resume).track
-  unfolding track_step
-  resume-set = refl
-
-  pub scale-set : (x : Float) → track_step t (SetTimeScale x) ≡ track_silent 0 (track_step t (SetTimeScale x)).track
-  unfolding track_step
-  scale-set x = refl
+sent-quiet k c rule r = either (λ (o : TrackOut). o.listed ≡ []) (short r k) _ _ refl refl
 
 -- ---- the answers, as calls in place leave them
 
-module _ (head : Playhead) (ss ds : List Float) where
-  abbrev left : Clock → List Bool → Track
-  left c ms = track_of (with_clock_at head c) ss ds ms
+-- `make` answers x where a call that lists nothing answered y: both are refused, or neither
+abbrev Likewise : Result ℕ Refusal → Result Unit Refusal → Type 0
+Likewise x y = (number_in x ≡ number_in y) × (held_or 0 x ≡ 0)
 
-  -- what was answered, as `make` hands it out
-  module _ {o : TrackOut} {k k' : List ℕ} {a a' p p' : List Float} (ms : List Bool) where
-    -- a call that moved what plays: refused, and accepted
-    pub moved-refused : (l : List ℕ) {r : Result Clock Refusal} {e : Refusal} {x : Result Made Refusal} → o.listed ≡ [] → r ≡ Err e → x ≡ Err e → MovesBy o (number_in r) (left (held_or head.clock r) ms) k k' a a' p p'
-        → MadeBy o (number_in x) (left_by head x).listed (left (left_by head x).clock ms) l l k k' a a' p p'
-    moved-refused l quiet er ex m =
-        let y = rw er at m in
-        rw ex (record { refusal = y.refusal; listed = rw quiet; track = y.track; list = rw quiet; rows = y.rows })
+pub both-refused : {x : Result ℕ Refusal} {y : Result Unit Refusal} (e : Refusal) → x ≡ Err e → y ≡ Err e → Likewise x y
+both-refused e ex ey = rw (ex, ey) (refl, refl)
 
-    pub moved-on : (l : List ℕ) {r : Result Clock Refusal} {c : Clock} → o.listed ≡ [] → r ≡ Ok c → MovesBy o (number_in r) (left (held_or head.clock r) ms) k k' a a' p p' → MadeBy o accepted 0 (left c ms) l l k k' a a' p p'
-    moved-on l quiet er m =
-        let y = rw er at m in
-        record { refusal = y.refusal; listed = rw quiet; track = y.track; list = rw quiet; rows = y.rows }
+pub both-accepted : {y : Result Unit Refusal} → y ≡ Ok tt → Likewise (Ok 0) y
+both-accepted ey = rw ey (refl, refl)
 
-    -- an update, likewise
-    pub update-refused : {l l' : List ℕ} {r : Result Updated Refusal} {e : Refusal} {x : Result Made Refusal} → r ≡ Err e → x ≡ Err e → UpdatesBy o (answer_in r) (left (clock_of head r) ms) l l' k k' a a' p p'
-        → MadeBy o (number_in x) (left_by head x).listed (left (left_by head x).clock ms) l l' k k' a a' p p'
-    update-refused er ex m =
-        let y = rw er at m in
-        rw ex (record { refusal = ap (λ (z : Answer). z.refusal) y.answer; listed = ap (λ (z : Answer). z.listed) y.answer; track = y.track; list = y.list; rows = y.rows })
+-- and where an update did
+abbrev Counts : Result ℕ Refusal → Result Updated Refusal → Type 0
+Counts x y = (number_in x ≡ (answer_in y).refusal) × (held_or 0 x ≡ (answer_in y).listed)
 
-    pub updated-on : {l l' : List ℕ} {r : Result Updated Refusal} {u : Updated} → r ≡ Ok u → UpdatesBy o (answer_in r) (left (clock_of head r) ms) l l' k k' a a' p p' → MadeBy o accepted u.listed (left u.clock ms) l l' k k' a a' p p'
-    updated-on er m =
-        let y = rw er at m in
-        record { refusal = ap (λ (z : Answer). z.refusal) y.answer; listed = ap (λ (z : Answer). z.listed) y.answer; track = y.track; list = y.list; rows = y.rows }
+pub update-refused : {x : Result ℕ Refusal} {y : Result Updated Refusal} (e : Refusal) → x ≡ Err e → y ≡ Err e → Counts x y
+update-refused e ex ey = rw (ex, ey) (refl, refl)
 
-  -- a call that set the clock, and one that is none
-  pub made-silent : (ms : List Bool) (n : ℕ) (o : TrackOut) {h : Playhead} {c : Clock} (l k : List ℕ) (a p : List Float) → o ≡ track_silent n o.track → left c ms ≡ o.track → h ≡ with_clock_at head c
-      → MadeBy o n 0 (left h.clock ms) l l k k a a p p
-  made-silent ms n o {h} {c} l k a p s u w =
-      subst (λ (y : TrackOut). MadeBy y n 0 (left h.clock ms) l l k k a a p p) (sym s)
-      (record {
-        refusal = refl;
-        listed = refl;
-        track = ap (λ (x : Playhead). left x.clock ms) w ∙ u;
-        list = refl;
-        rows = record { kinds = refl; amounts = refl; places = refl };
-      })
+pub update-accepted : {y : Result Updated Refusal} {u : Updated} → y ≡ Ok u → Counts (Ok u.listed) y
+update-accepted ey = rw ey (refl, refl)
+
+-- the track of the player with another playhead
+abbrev pub playing_at : Player → Playhead → Track
+playing_at p h = playing_in (record { head = h; spans = p.spans; marks = p.marks })
+
+module _ (p : Player) (r : Rows) where
+  abbrev Made : TrackOut → Result ℕ Refusal → Player → List ℕ → List ℕ → Rows → Type 0
+  Made o x q l₀ l s = SameColumns p q × SameSlices r s × MadeBy o x (playing_in q) l₀ l r.kinds.now s.kinds.now r.amounts.now s.amounts.now r.places.now s.places.now
+
+  -- a call that moved what plays, and lists nothing
+  pub made-moved : (l : List ℕ) {o : TrackOut} {x : Result ℕ Refusal} {q : Player} {s : Rows} (y : Result Unit Refusal) → o.listed ≡ [] → Likewise x y
+      → SameColumns p q × SameSlices r s × MovesBy o (number_in y) (playing_in q) r.kinds.now s.kinds.now r.amounts.now s.amounts.now r.places.now s.places.now → Made o x q l l s
+  made-moved l y quiet e m =
+      (m.0, m.1, record { refusal = e.0 ∙ m.2.refusal; listed = e.1 ∙ sym (ap length quiet); track = m.2.track; list = rw quiet; rows = m.2.rows })
+
+  -- an update
+  pub made-updated : {l₀ l : List ℕ} {o : TrackOut} {x : Result ℕ Refusal} {q : Player} {s : Rows} (y : Result Updated Refusal) → Counts x y → Updates o p y q l₀ l r s → Made o x q l₀ l s
+  made-updated y e u =
+      (u.0, u.1, record { refusal = e.0 ∙ ap (λ (z : Answer). z.refusal) u.2.answer; listed = e.1 ∙ ap (λ (z : Answer). z.listed) u.2.answer; track = u.2.track; list = u.2.list; rows = u.2.rows })
+
+  -- a call that set the clock, or did nothing
+  pub made-silent : (l : List ℕ) {k : Track} {x : Result ℕ Refusal} {q : Player} {c : Clock} → Left p q c → held_or 0 x ≡ 0 → playing_in q ≡ k → Made (track_silent (number_in x) k) x q l l r
+  made-silent l left e track =
+      (same_columns left, same_slices r, record { refusal = refl; listed = e; track = track; list = refl; rows = record { kinds = refl; amounts = refl; places = refl } })
 
 -- ---- which call a byte makes
 
@@ -135,49 +103,30 @@ module _ (replies : List ℕ) (capacity : ℕ) (r : Room) (t : Track) (byte : �
 
   -- ---- how much is listed
 
-  cond-few : (b : Bool) (o q : TrackOut) → length o.listed ≤ capacity → length q.listed ≤ capacity → length (cond b o q).listed ≤ capacity
-  cond-few true o q e f = e
-  cond-few false o q e f = f
+  abbrev Lists : TrackOut → Type 0
+  Lists o = length o.listed ≤ capacity
 
-  few-quiet : (o : TrackOut) → o.listed ≡ [] → length o.listed ≤ capacity
-  few-quiet o e = rw e (omega arith)
+  few-sent : (c : Clock) (rule : Rule) → Lists (sent t c rule r)
+  few-sent c rule = omega (arith, ap length (sent-quiet t c rule r))
 
   -- 5 refuses more
   few-fitted : (b : Bool) (o : TrackOut) → ltb capacity (length o.listed) ≡ b → length (refused_if b 5 t o).listed ≤ capacity
   few-fitted true o e = omega arith
   few-fitted false o e = ltb-false _ _ e
 
-  few-updated : length (track_step t (Update x replies capacity r)).listed ≤ capacity
-  unfolding track_step updated_with
-  few-updated =
-      cond-few (short r t) _ _ (omega arith)
-      (cond-few (replies_bad replies t) _ _ (omega arith) (few-fitted _ (updated t x replies) refl))
-
-  pub few-listed : length (outcome_in replies capacity r t byte x).listed ≤ capacity
-  unfolding outcome_in
+  pub few-listed : Lists (outcome_in replies capacity r t byte x)
+  unfolding outcome_in track_step sought_to updated_with
   few-listed =
-      cond-few (eqb byte 0) _ _ (few-quiet (track_step t (Play r)) (play-quiet t r))
-      (cond-few (eqb byte 1) _ _ (few-quiet (track_step t Pause) (ap (λ (o : TrackOut). o.listed) (pause-set t)))
-      (cond-few (eqb byte 2) _ _ (few-quiet (track_step t Resume) (ap (λ (o : TrackOut). o.listed) (resume-set t)))
-      (cond-few (eqb byte 3) _ _ (few-quiet (track_step t (Reset r)) (reset-quiet t r))
-      (cond-few (eqb byte 4) _ _ few-updated
-      (cond-few (eqb byte 5) _ _ (few-quiet (track_step t (Seek x r)) (seek-quiet t r x))
-      (cond-few (eqb byte 6) _ _ (few-quiet (track_step t (SeekAbs x r)) (seek-abs-quiet t r x))
-      (cond-few (eqb byte 7) _ (track_silent 14 t) (few-quiet (track_step t (SetTimeScale x)) (ap (λ (o : TrackOut). o.listed) (scale-set t x))) (omega arith))))))))
+      either Lists (eqb byte 0) _ _ (few-sent _ _)
+      (either Lists (eqb byte 1) _ _ (omega arith)
+      (either Lists (eqb byte 2) _ _ (omega arith)
+      (either Lists (eqb byte 3) _ _ (few-sent _ _)
+      (either Lists (eqb byte 4) _ _ (either Lists (short r t) _ _ (omega arith) (either Lists (replies_bad replies t) _ _ (omega arith) (few-fitted _ (updated t x replies) refl)))
+      (either Lists (eqb byte 5) _ _ (few-sent _ _)
+      (either Lists (eqb byte 6) _ _ (few-sent _ _)
+      (either Lists (eqb byte 7) _ (track_silent 14 t) (omega arith) (omega arith))))))))
 
 -- ---- how many rows are sent
-
-rows-either : (n : ℕ) (b : Bool) (o q : TrackOut) → length o.rows ≤ n → length q.rows ≤ n → length (cond b o q).rows ≤ n
-rows-either n true o q e f = e
-rows-either n false o q e f = f
-
-long_cond : (n : ℕ) (b : Bool) (v w : List Stepped) → length v ≡ n → length w ≡ n → length (cond b v w) ≡ n
-long_cond n true v w e f = e
-long_cond n false v w e f = f
-
-steps_cond : (n : ℕ) (b : Bool) (v w : Advance) → length v.steps ≡ n → length w.steps ≡ n → length (cond b v w).steps ≡ n
-steps_cond n true v w e f = e
-steps_cond n false v w e f = f
 
 module _ (t : Track) (r : Room) where
   abbrev Few : TrackOut → Type 0
@@ -190,7 +139,7 @@ module _ (t : Track) (r : Room) where
   -- as many as there are entries, which have room
   entries-few : (ss : List Stepped) → length ss ≡ length (live t) → short r t ≡ false → length (rows_of ss) ≤ r.kinds
   entries-few ss e h =
-      let room : ltb r.kinds (length (live t)) ≡ false = (or-false _ _ h).0 in
+      let room : ltb r.kinds (length (live t)) ≡ false = (or_parts _ _ h).0 in
       omega (arith, e, length-map ss (λ (s : Stepped). s.row), ltb-false _ _ room)
 
   ruled-few : (rule : Rule) → short r t ≡ false → length (rows_of (map (ruled rule) (live t))) ≤ r.kinds
@@ -209,22 +158,22 @@ module _ (t : Track) (r : Room) where
       let to = reach_of t.looping base next in
       let from = min_f t.clock.elapsed base in
       let sync = ruled (Sync (local_time t.looping base to.elapsed)) in
-      steps_cond _ (eq base zero_f) (ended_at (live t) t.clock.elapsed) (advanced t.looping (live t) base t.clock.elapsed next rs) (length-map (live t) (ruled Keep))
-      (long_cond _ (is_once t.looping) (ticks from to.elapsed (live t) rs) (map sync (live t)) (length-ticks from to.elapsed (live t) rs) (length-map (live t) sync))
+      either (λ (a : Advance). length a.steps ≡ length (live t)) (eq base zero_f) (ended_at (live t) t.clock.elapsed) (advanced t.looping (live t) base t.clock.elapsed next rs) (length-map (live t) (ruled Keep))
+      (either (λ (ss : List Stepped). length ss ≡ length (live t)) (is_once t.looping) (ticks from to.elapsed (live t) rs) (map sync (live t)) (length-ticks from to.elapsed (live t) rs) (length-map (live t) sync))
 
   updated-few : (x : Float) (rs : List ℕ) → short r t ≡ false → Few (updated t x rs)
   unfolding updated advanced_to rested
-  updated-few x rs h = rows-either r.kinds (is_playing t.clock.state) (advanced_to t (playing t x rs)) (rested t) (entries-few (playing t x rs).steps (playing-long x rs) h) (ruled-few Keep h)
+  updated-few x rs h = either Few (is_playing t.clock.state) (advanced_to t (playing t x rs)) (rested t) (entries-few (playing t x rs).steps (playing-long x rs) h) (ruled-few Keep h)
 
 module _ (replies : List ℕ) (capacity : ℕ) (r : Room) (t : Track) (byte : ℕ) (x : Float) where
   pub few-rows : length (outcome_in replies capacity r t byte x).rows ≤ r.kinds
   unfolding outcome_in track_step sought_to updated_with
   few-rows =
-      rows-either r.kinds (eqb byte 0) _ _ (sent-few t r _ _)
-      (rows-either r.kinds (eqb byte 1) _ _ (omega arith)
-      (rows-either r.kinds (eqb byte 2) _ _ (omega arith)
-      (rows-either r.kinds (eqb byte 3) _ _ (sent-few t r _ _)
-      (rows-either r.kinds (eqb byte 4) _ _ (refused-few t r (short r t) 3 _ (λ h. refused-few t r (replies_bad replies t) 4 (fitted capacity t (updated t x replies)) (λ i. refused-few t r (ltb capacity (length (updated t x replies).listed)) 5 (updated t x replies) (λ j. updated-few t r x replies h))))
-      (rows-either r.kinds (eqb byte 5) _ _ (sent-few t r _ _)
-      (rows-either r.kinds (eqb byte 6) _ _ (sent-few t r _ _)
-      (rows-either r.kinds (eqb byte 7) _ (track_silent 14 t) (omega arith) (omega arith))))))))
+      either (Few t r) (eqb byte 0) _ _ (sent-few t r _ _)
+      (either (Few t r) (eqb byte 1) _ _ (omega arith)
+      (either (Few t r) (eqb byte 2) _ _ (omega arith)
+      (either (Few t r) (eqb byte 3) _ _ (sent-few t r _ _)
+      (either (Few t r) (eqb byte 4) _ _ (refused-few t r (short r t) 3 _ (λ h. refused-few t r (replies_bad replies t) 4 (fitted capacity t (updated t x replies)) (λ i. refused-few t r (ltb capacity (length (updated t x replies).listed)) 5 (updated t x replies) (λ j. updated-few t r x replies h))))
+      (either (Few t r) (eqb byte 5) _ _ (sent-few t r _ _)
+      (either (Few t r) (eqb byte 6) _ _ (sent-few t r _ _)
+      (either (Few t r) (eqb byte 7) _ (track_silent 14 t) (omega arith) (omega arith))))))))

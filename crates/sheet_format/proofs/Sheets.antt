@@ -14,7 +14,7 @@ use Rattle.sheet_format.specs.declared.description.Item.{Item}
 use Rattle.sheet_format.specs.declared.description.Description.{Description}
 use Rattle.sheet_rules.specs.Rules.{header_size, labels_at}
 use Rattle.sheet_format.specs.Descriptions.{items_in}
-use Rattle.sheet_format.specs.Write.{header_bytes, texts_of, sheet_of, labels_good, targets_good, describe_number, write_number, written_bytes}
+use Rattle.sheet_format.specs.Write.{header_bytes, texts_of, sheet_of, labels_good, targets_good, describe_number, write_number, written_bytes, Fits}
 use Rattle.words.proofs.Bytes.{length-bytes}
 use Rattle.sheet_format.proofs.Turns.{length_pairs, length-records}
 use Rattle.refusal.proofs.Checks.{passed, passed_good}
@@ -50,25 +50,17 @@ described d e =
     let c = passed_good _ 9 _ b.1 in
     record { few = ltb-false _ _ a.0; labels = b.0; targets = c.0 }
 
--- what holds of one that can be written into a room
-pub record Fitting (d : Description) (room : ℕ) : Type 0 where
-  pub few : d.count ≤ max_entries
-  pub targets : targets_good d.count (items_in d) ≡ true
-  pub items : length (items_in d) ≡ d.count
-  pub fits : labels_at d.count + length (texts_of (items_in d)) ≤ room
-
-pub fitting : (d : Description) (room : ℕ) → length (items_in d) ≡ min d.count max_entries → describe_number d ≡ 0 → length (sheet_of d) ≤ room → Fitting d room
+-- so its sheet fits, where there is room for it
+pub fitting : (d : Description) (room : ℕ) → length d.items ≡ max_entries → describe_number d ≡ 0 → length (sheet_of d) ≤ room → Fits d room
 fitting d room h e k =
     let g = described d e in
-    let f = g.few in
-    let l : length (items_in d) ≡ d.count = omega arith in
-    record { few = f; targets = g.targets; items = l; fits = omega (arith, length-sheet d l) }
+    let l = length-items d h g.few in
+    record { few = g.few; targets = g.targets; items = l; fits = omega (arith, length-sheet d l) }
 
 -- where the labels start, and how long they are, is how long the sheet is
-pub size-sheet : (d : Description) (items : List Item) (at len : ℕ) → describe_number d ≡ 0 → items ≡ items_in d → length items ≡ min d.count max_entries
+pub size-sheet : (d : Description) (items : List Item) (at len : ℕ) → d.count ≤ max_entries → items ≡ items_in d → length items ≡ min d.count max_entries
     → at ≡ labels_at (length items) → len ≡ length (texts_of items) → at + len ≡ length (sheet_of d)
-size-sheet d items at len e v h a t =
-    let few = (described d e).few in
+size-sheet d items at len few v h a t =
     let h' = rw v at h in
     let a' = rw v at a in
     let t' = rw v at t in

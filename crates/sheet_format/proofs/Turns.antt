@@ -1,7 +1,7 @@
 -- The definitions that go over entries in turn, at a turn of a loop over i of n.
 use Prim.Native.Nat.{ℕ, zero, suc, ◌+◌, ◌-◌, ◌*◌, ◌≤◌, ◌<◌}
 use mathlib.Core.Path.{◌≡◌, refl, sym}
-use mathlib.Core.Bool.{true, false, cond, not}
+use mathlib.Core.Bool.{true}
 use mathlib.Core.List.{List, [], ◌∷◌, ◌++◌}
 use native.Mathlib.Nat.{not-suc-le-zero, le_of_suc-le-suc}
 use native.Mathlib.Numerals.{add-one}
@@ -10,20 +10,20 @@ use borrow.Author.Tests.{ltb-true}
 use Rattle.std.specs.Prelude.{sum_by}
 use Rattle.std.specs.List.{list_all}
 use Rattle.std.proofs.lemmas.List.Recursion.{is_sum_by}
-use lib.Dec.{eqb, leb}
+use lib.Dec.{leb}
 use lib.ListN.{length, drop, get_or, length-append}
 use lib.Seq.{drop-cons, drop-drop}
 use Rattle.refusal.specs.declared.Refusal.{Refusal}
-use Rattle.refusal.specs.Refusal.{accepted, number, sheet_length, sheet_pair}
+use Rattle.refusal.specs.Refusal.{accepted, number}
 use Rattle.refusal.proofs.Numbers.{refused}
 use Rattle.steps.specs.Times.{max_entries}
 use Rattle.label.specs.Label.{max_label, text}
 use Rattle.sheet_rules.specs.declared.record.Placement.{Placement}
 use Rattle.sheet_rules.specs.declared.record.Placement.TheVariants.{Absolute, Start, End, Label as Labeled, Offset}
 use Rattle.sheet_format.specs.declared.description.Item.{Item}
-use Rattle.words.specs.Pairs.{pair_size, length_in, pairs_in_turn}
+use Rattle.words.specs.Pairs.{pair_size}
 use Rattle.sheet_rules.specs.Rules.{record_size}
-use Rattle.sheet_format.specs.Check.{pair_good, pairs_number, record_number, records_number}
+use Rattle.sheet_format.specs.Check.{record_number, records_number}
 use Rattle.sheet_format.specs.Descriptions.{item_of, items_from}
 use Rattle.sheet_format.specs.Write.{text_length, pair_of, pairs_of, record_of, records_of, texts_of, labels_good, targets_good}
 use Rattle.sheet_rules.specs.Placements.{target_of, target_good}
@@ -37,22 +37,6 @@ module _ (n i : ℕ) where
 
   done : n ≤ i → n - i ≡ 0
   done h = omega arith
-
-  -- ---- the pairs
-
-  module _ (len offset at : ℕ) (s : List ℕ) where
-    pub pairs-bad : i < n → pair_good offset (drop at s) ≡ false → pairs_number len offset (n - i) (drop at s) ≡ sheet_pair
-    unfolding pairs_in_turn
-    pairs-bad h g = rw (turn h, g)
-
-    pub pairs-more : (next : ℕ) → next ≡ at + pair_size → i < n → pair_good offset (drop at s) ≡ true
-        → pairs_number len offset (n - i) (drop at s) ≡ pairs_number len (offset + length_in (drop at s)) (n - (i + 1)) (drop next s)
-    unfolding pairs_in_turn
-    pairs-more next e h g = rw (e, turn h, g, drop-drop pair_size at s)
-
-    pub pairs_end : n ≤ i → pairs_number len offset (n - i) (drop at s) ≡ cond (not (eqb offset len)) sheet_length accepted
-    unfolding pairs_in_turn
-    pairs_end h = rw (done h)
 
   -- ---- the records
 

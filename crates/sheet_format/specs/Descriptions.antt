@@ -1,7 +1,6 @@
 -- The description that a sheet's bytes say. Definitions only.
-use Rattle.std.specs.Prelude.{ℕ, zero, suc, ◌-◌, cond, List, [], ◌∷◌, ◌++◌, map, eqb, take, drop, replicate, Option, Some, None}
-use Rattle.refusal.specs.declared.Refusal.{Refusal}
-use Rattle.refusal.specs.Refusal.{accepted, number_if}
+use Rattle.std.specs.Prelude.{ℕ, zero, suc, ◌-◌, cond, List, [], ◌∷◌, ◌++◌, map, eqb, take, drop, replicate}
+use Rattle.refusal.specs.Refusal.{number_if}
 use Rattle.steps.specs.Times.{max_entries}
 use Rattle.tween.specs.declared.loop_mode.Loop.TheVariants.{Once}
 use Rattle.tween.specs.LoopMode.{loop_of}

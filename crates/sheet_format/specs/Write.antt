@@ -1,5 +1,5 @@
 -- The bytes that a description is written as, and when it is refused. Definitions only.
-use Rattle.std.specs.Prelude.{ℕ, ◌+◌, ◌≡◌, Bool, true, cond, not, ◌&&◌, List, [], ◌∷◌, ◌++◌, eqb, leb, ltb, length, take, drop, Result}
+use Rattle.std.specs.Prelude.{ℕ, ◌+◌, ◌≤◌, ◌≡◌, Bool, true, cond, not, ◌&&◌, List, [], ◌∷◌, ◌++◌, eqb, leb, ltb, length, take, drop, Result}
 use Rattle.refusal.specs.declared.Refusal.{Refusal}
 use Rattle.refusal.specs.Refusal.{accepted, sheet_count, sheet_placement, sheet_pair, room_too_short, refused_if, number_in, held_or}
 use Rattle.steps.specs.Times.{max_entries}
@@ -94,6 +94,13 @@ written_answer d room = record { refusal = write_number d room; len = length (wr
 
 abbrev pub written_room : Description → List ℕ → List ℕ
 written_room d room = written_bytes d (length room) ++ drop (length (written_bytes d (length room))) room
+
+-- what holds of an accepted description whose sheet fits a room of so many bytes
+pub record Fits (d : Description) (room : ℕ) : Type 0 where
+  pub few : d.count ≤ max_entries
+  pub targets : targets_good d.count (items_in d) ≡ true
+  pub items : length (items_in d) ≡ d.count
+  pub fits : labels_at d.count + length (texts_of (items_in d)) ≤ room
 
 -- "reading its bytes returns the description, float bits included": of an accepted description d, the answer, and what the room holds then
 abbrev pub ReadsBack : Description → Written → List ℕ → Type 0

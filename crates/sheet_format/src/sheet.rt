@@ -1,6 +1,6 @@
 // A sheet whose header is accepted: its pairs, where each label starts and how long it is; its records, where each entry is placed and
 // how long it is; and its entries, as they are read.
-ghost use Rattle.std.specs.Prelude.{◌≡◌, ◌++◌, ◌-◌, ◌*◌, ◌<◌, ◌≤◌, IfOk, length, take, drop, replicate};
+ghost use Rattle.std.specs.Prelude.{◌≡◌, ◌++◌, ◌+◌, ◌-◌, ◌*◌, ◌<◌, ◌≤◌, IfOk, length, take, drop, replicate};
 ghost use Rattle.refusal.specs.Refusal.{number_in};
 ghost use Rattle.steps.specs.Times.{max_entries};
 ghost use Rattle.tween.specs.LoopMode.{loop_of};
@@ -32,6 +32,7 @@ pub(crate) struct Sheet<'a> {
 
 impl<'a> Sheet<'a> {
     // Checks the header.
+    #[tactic(auto, unfolding(crate::specs::Check::header_number))]
     pub(crate) fn of(bytes: &'a [u8]) -> Result<Sheet<'a>, Refusal>
         ensures number { number_in result ≡ header_number bytes.now }
         ensures same { IfOk result (λ sheet. sheet.bytes.now ≡ bytes.now) }
@@ -57,21 +58,21 @@ impl<'a> Sheet<'a> {
 
     // All pairs.
     fn pairs(self) -> &'a [u8]
-        ensures { result.now ≡ take (pair_size * self.count) (drop header_size self.bytes.now) }
+        ensures { result.now ≡ take (pair_size * self.entry.count) (drop header_size self.entry.bytes.now) }
     {
         &self.bytes[HEADER_SIZE..records_at(self.count)]
     }
 
     // All records.
     fn records(self) -> &'a [u8]
-        ensures { result.now ≡ take (record_size * self.count) (drop (records_at self.count) self.bytes.now) }
+        ensures { result.now ≡ take (record_size * self.entry.count) (drop (records_at self.entry.count) self.entry.bytes.now) }
     {
         &self.bytes[records_at(self.count)..labels_at(self.count)]
     }
 
     // Each pair starts where the one before ends, and the last ends the sheet.
     pub(crate) fn check_pairs(self) -> Result<(), Refusal>
-        ensures { number_in result ≡ pairs_number (length self.bytes.now) (labels_at self.count) self.count (drop header_size self.bytes.now) }
+        ensures { number_in result ≡ pairs_number (length self.entry.bytes.now) (labels_at self.entry.count) self.entry.count (drop header_size self.entry.bytes.now) }
     {
         let mut offset = labels_at(self.count);
         for pair in self.pairs().chunks_exact(PAIR_SIZE) {
@@ -89,7 +90,7 @@ impl<'a> Sheet<'a> {
 
     // The records, in turn.
     pub(crate) fn check_records(self) -> Result<(), Refusal>
-        ensures { number_in result ≡ records_number self.count self.count (drop (records_at self.count) self.bytes.now) }
+        ensures { number_in result ≡ records_number self.entry.count self.entry.count (drop (records_at self.entry.count) self.entry.bytes.now) }
     {
         for record in self.records().chunks_exact(RECORD_SIZE) {
             record_in(record).placement(self.count)?;
@@ -100,8 +101,8 @@ impl<'a> Sheet<'a> {
     // The entry whose pair and record are the i-th, or why the record is refused.
     fn item(self, i: usize) -> Result<Item, Refusal>
         requires { i < self.count }
-        ensures number { number_in result ≡ record_number self.count (drop (records_at self.count + record_size * i) self.bytes.now) }
-        ensures value { IfOk result (λ item. item ≡ item_of self.bytes.now (drop (header_size + pair_size * i) self.bytes.now) (drop (records_at self.count + record_size * i) self.bytes.now)) }
+        ensures number { number_in result ≡ record_number self.entry.count (drop (records_at self.entry.count + record_size * i) self.entry.bytes.now) }
+        ensures value { IfOk result (λ item. item ≡ item_of self.entry.bytes.now (drop (header_size + pair_size * i) self.entry.bytes.now) (drop (records_at self.entry.count + record_size * i) self.entry.bytes.now)) }
     {
         let record = &self.bytes[records_at(self.count) + RECORD_SIZE * i..];
         let at = record_in(record).placement(self.count)?;
@@ -114,8 +115,8 @@ impl<'a> Sheet<'a> {
 
     // The entries, and blank ones after them, or why a record is refused.
     pub(crate) fn items(self) -> Result<[Item; MAX_ENTRIES], Refusal>
-        ensures number { number_in result ≡ records_number self.count self.count (drop (records_at self.count) self.bytes.now) }
-        ensures value { IfOk result (λ items. items ≡ items_from self.bytes.now self.count (drop header_size self.bytes.now) (drop (records_at self.count) self.bytes.now) ++ replicate (max_entries - self.count) blank_item) }
+        ensures number { number_in result ≡ records_number self.entry.count self.entry.count (drop (records_at self.entry.count) self.entry.bytes.now) }
+        ensures value { IfOk result (λ items. items ≡ items_from self.entry.bytes.now self.entry.count (drop header_size self.entry.bytes.now) (drop (records_at self.entry.count) self.entry.bytes.now) ++ replicate (max_entries - self.entry.count) blank_item) }
     {
         let mut items = [Item::blank(); MAX_ENTRIES];
         // by index: after `iter_mut` a proof knows the length of `items` only

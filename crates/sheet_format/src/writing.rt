@@ -1,9 +1,9 @@
 // Writing a description as a sheet.
-ghost use Rattle.std.specs.Prelude.{◌≡◌, ◌+◌, ◌≤◌, length};
+ghost use Rattle.std.specs.Prelude.{◌≡◌, ◌+◌, ◌≤◌, IfOk, length};
 ghost use Rattle.steps.specs.Times.{max_entries};
 ghost use Rattle.digits.specs.Digits.{put_at};
-ghost use Rattle.refusal.specs.Refusal.{accepted, number_in};
-ghost use Rattle.sheet_format.specs.Write.{texts_of, sheet_of, labels_good, targets_good, describe_number, written_as, written_answer, written_room, ReadsBack};
+ghost use Rattle.refusal.specs.Refusal.{number_in};
+ghost use Rattle.sheet_format.specs.Write.{texts_of, sheet_of, labels_good, targets_good, describe_number, written_as, written_answer, written_room, Fits, ReadsBack};
 
 use crate::description::{Description, Item};
 use crate::header::{labels_at, put_header};
@@ -53,10 +53,11 @@ fn put_texts(room: &mut [u8], items: &[Item], start: usize)
 }
 
 impl Description {
-    // Whether it can be written, or why not, whatever the room.
+    // How long its sheet is, or why it cannot be written, whatever the room.
     #[tactic(auto, unfolding(crate::specs::Write::describe_number))]
-    fn check(&self) -> Result<(), Refusal>
-        ensures { number_in result ≡ describe_number self.now }
+    fn sheet_len(&self) -> Result<usize, Refusal>
+        ensures number { number_in result ≡ describe_number self.now }
+        ensures len { IfOk result (λ len. len ≡ length (sheet_of self.now)) }
     {
         if self.count > MAX_ENTRIES {
             return Err(Refusal::SheetCount);
@@ -68,12 +69,12 @@ impl Description {
         if !targets_good(items, self.count) {
             return Err(Refusal::SheetPlacement);
         }
-        Ok(())
+        Ok(labels_at(items.len()) + texts_len(items))
     }
 
     // Writes the sheet of an accepted description.
     fn put(&self, room: &mut [u8])
-        requires { (describe_number self.now ≡ accepted) × (length (sheet_of self.now) ≤ length room.old) }
+        requires { Fits self.now (length room.old) }
         ensures { room.new ≡ put_at (sheet_of self.now) 0 room.old }
     {
         let items = self.items();
@@ -91,9 +92,7 @@ pub fn write(described: Description, room: &mut [u8]) -> Result<usize, Refusal>
     ensures room_after { room.new ≡ written_room described room.old }
     ensures reads_back { ReadsBack described (written_as result) room.new }
 {
-    described.check()?;
-    let items = described.items();
-    let len = labels_at(items.len()) + texts_len(items);
+    let len = described.sheet_len()?;
     if len > room.len() {
         return Err(Refusal::RoomTooShort);
     }

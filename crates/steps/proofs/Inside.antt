@@ -10,7 +10,7 @@ use Rattle.float32.proofs.MaxMin.{max-same, min-same, min-other}
 use Rattle.steps.specs.declared.Entry.{Entry}
 use Rattle.steps.specs.Times.{end_at}
 use Rattle.steps.specs.Rows.{row, stepped, seek_row, ticked}
-use Rattle.steps.proofs.Tests.{and-true}
+use Rattle.std.proofs.lemmas.Bool.{and_parts}
 use Rattle.steps.proofs.Zero.{add-zero_le}
 
 -- an entry that begins before a place and ends after it has a length
@@ -25,8 +25,8 @@ has_length e x fit begun unended = go (eq e.duration zero_f) (add-zero_le binary
 pub ticked-inside : (prev next : Float) (e : Entry) (reply : ℕ) → T (fits binary32 e.start) → (lt e.start prev && (lt next (end_at e) && lt prev next)) ≡ true → ticked prev next e reply ≡ stepped (row 4 (sub binary32 next prev) zero_f) (eqb reply 0 || e.done)
 unfolding ticked
 ticked-inside prev next e reply fit inside =
-    let begun = and-true _ _ inside in
-    let forward = and-true _ _ begun.1 in
+    let begun = and_parts _ _ inside in
+    let forward = and_parts _ _ begun.1 in
     let reached : lt e.start next ≡ true = lt_trans e.start prev next begun.0 forward.1 in
     rw (
       not-lt_of_lt e.start next reached,
@@ -61,6 +61,6 @@ behind prev next e reply false instant started begun ended past =
 
 pub ticked-behind : (prev next : Float) (e : Entry) (reply : ℕ) → lt next e.start ≡ false → (lt e.start prev && (le (end_at e) prev && lt (end_at e) next)) ≡ true → ticked prev next e reply ≡ stepped (seek_row one_f) true
 ticked-behind prev next e reply started h =
-    let begun = and-true _ _ h in
-    let ended = and-true _ _ begun.1 in
+    let begun = and_parts _ _ h in
+    let ended = and_parts _ _ begun.1 in
     behind prev next e reply (eq e.duration zero_f) refl started begun.0 ended.0 ended.1

@@ -2,7 +2,7 @@
 use mathlib.Core.Path.{◌≡◌, refl, ap, ◌∙◌}
 use mathlib.Core.Bool.{Bool, true, false, not, ◌&&◌, true≢false, false≢true, or-true}
 use Prim.Native.Nat.{ℕ, zero, suc, ◌+◌, ◌-◌, ◌*◌, ◌<◌}
-use native.Mathlib.Nat.{mul-pos, mul_comm, mul_assoc, zero-lt-suc}
+use native.Mathlib.Nat.{mul-pos, mul_comm, mul_assoc, zero-lt-suc, add-zero, sub-zero}
 use native.Mathlib.Omega.{arith}
 use borrow.Author.Tests.{lt-ltb, le-ltb, eqb-true}
 use lib.Dec.{T, ltb}
@@ -16,26 +16,20 @@ use Rattle.float32.proofs.Order.{le-self, zero_times}
 use Rattle.float32.proofs.Nonneg.{zero_size, round-zero_value}
 use Rattle.float32.proofs.Grow.{small_le}
 use Rattle.float32.proofs.Value.{round-own}
-use Rattle.steps.proofs.Tests.{and-true}
+use Rattle.std.proofs.lemmas.Bool.{and_parts}
 
 -- what equals zero is written with 0
 zero_digits : (t : Bool) (n : ℕ) (d : ℤ) → eq (fin t n d) zero_f ≡ true → n ≡ 0
 unfolding eq of_bits
-zero_digits t n d h = zero_size t n d 1 (zero-lt-suc 0) (eqb-true _ _ (and-true _ _ h).0)
-
-more : (a b : ℕ) → b ≡ 0 → a + b ≡ a
-more a b z = omega arith
-
-less : (a b : ℕ) → b ≡ 0 → a - b ≡ a
-less a b z = omega arith
+zero_digits t n d h = zero_size t n d 1 (zero-lt-suc 0) (eqb-true _ _ (and_parts _ _ h).0)
 
 -- the sum of a value that is not zero and a zero is the value, rounded
 sum_zero : (f : Format) (s : Bool) (a : ℕ) (t : Bool) (b c : ℕ) → b ≡ 0 → 0 < a → sum f s a t b c ≡ round f s a c
 unfolding sum
-sum_zero f false a false b c z A = rw (more a b z)
-sum_zero f true a true b c z A = rw (more a b z)
-sum_zero f false a true b c z A = rw (le-ltb a b (omega arith), less a b z)
-sum_zero f true a false b c z A = rw (le-ltb a b (omega arith), lt-ltb b a (omega arith), less a b z)
+sum_zero f false a false b c z A = rw (z, add-zero a)
+sum_zero f true a true b c z A = rw (z, add-zero a)
+sum_zero f false a true b c z A = rw (le-ltb a b (omega arith), z, sub-zero a)
+sum_zero f true a false b c z A = rw (le-ltb a b (omega arith), lt-ltb b a (omega arith), z, sub-zero a)
 
 -- a zero, rounded, is no larger than a zero
 round-zero_le : (f : Format) (s : Bool) (a c : ℕ) (z : Float) → 0 < c → a ≡ 0 → nonneg_f z ≡ true → le (round f s a c) z ≡ true
@@ -55,9 +49,9 @@ sum_zeros f false a true b c z C p q h = rw (le-ltb a b (omega arith)) (round-ze
 sum_zeros f true a false b c z C p q h = rw (le-ltb a b (omega arith)) (round-zero_le f (true && ltb b a) (a - b) c z C (omega arith) h)
 
 -- a value that is not zero and that the format holds, plus a zero, is the value
-add-zero : (f : Format) (s : Bool) (m : ℕ) (e : ℤ) (t : Bool) (n : ℕ) (d : ℤ) → T (fits f (fin s (suc m) e)) → n ≡ 0 → add f (fin s (suc m) e) (fin t n d) ≡ fin s (suc m) e
+plus-zero : (f : Format) (s : Bool) (m : ℕ) (e : ℤ) (t : Bool) (n : ℕ) (d : ℤ) → T (fits f (fin s (suc m) e)) → n ≡ 0 → add f (fin s (suc m) e) (fin t n d) ≡ fin s (suc m) e
 unfolding add
-add-zero f s m e t n d p z =
+plus-zero f s m e t n d p z =
     let a = suc m * up e in
     let c = down e * down d in
     sum_zero f s (a * down d) t (n * up d * down e) c (zero_times (down e) (zero_times (up d) z)) (mul-pos (mul-pos (zero-lt-suc m) (up_pos e)) (down_pos d))
@@ -76,4 +70,4 @@ add-zero_le f (fin s zero e) (fin t n d) p x z =
     unfold add in
     sum_zeros f s (0 * up e * down d) t (n * up d * down e) (down e * down d) (fin s 0 e) (mul-pos (down_pos e) (down_pos d))
     (zero_times (down d) (zero_times (up e) refl)) (zero_times (down e) (zero_times (up d) (zero_digits t n d z))) (or-true (not s))
-add-zero_le f (fin s (suc m) e) (fin t n d) p x z = rw (add-zero f s m e t n d p (zero_digits t n d z)) (le-self (fin s (suc m) e) x)
+add-zero_le f (fin s (suc m) e) (fin t n d) p x z = rw (plus-zero f s m e t n d p (zero_digits t n d z)) (le-self (fin s (suc m) e) x)

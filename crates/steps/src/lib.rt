@@ -22,7 +22,7 @@ pub const UPDATE: u8 = 4;
 pub const SEEK: u8 = 8;
 
 // An entry: where it starts, how long it is, and whether it is done.
-#[derive(Clone, Copy, Debug, Default)]
+#[derive(Clone, Copy, Debug, Default, PartialEq)]
 pub struct Entry {
     pub start: f32,
     pub duration: f32,
@@ -31,7 +31,7 @@ pub struct Entry {
 
 // An entry's row: the number of resets, plus 4 for an update by the amount, plus 8 for a seek to the place.
 // A number, since paper 01 has it as a byte of a lent slice.
-#[derive(Clone, Copy, Debug, Default)]
+#[derive(Clone, Copy, Debug, Default, PartialEq)]
 pub struct Row {
     pub kind: u8,
     pub amount: f32,
@@ -39,14 +39,14 @@ pub struct Row {
 }
 
 // The row that an entry is sent, and the mark that it leaves.
-#[derive(Clone, Copy, Debug)]
+#[derive(Clone, Copy, Debug, PartialEq)]
 pub struct Stepped {
     pub row: Row,
     pub done: bool,
 }
 
 // What a call sends to every entry: nothing, a reset, what brings it to a local time, or that after a reset.
-#[derive(Clone, Copy, Debug)]
+#[derive(Clone, Copy, Debug, PartialEq)]
 pub enum Rule {
     Keep,
     Clear,
@@ -55,14 +55,14 @@ pub enum Rule {
 }
 
 // How a timeline plays: its loop mode, and its base.
-#[derive(Clone, Copy, Debug)]
+#[derive(Clone, Copy, Debug, PartialEq)]
 pub struct Run {
     pub mode: Loop,
     pub base: f32,
 }
 
 // An update goes from prev to next.
-#[derive(Clone, Copy, Debug)]
+#[derive(Clone, Copy, Debug, PartialEq)]
 pub struct Step {
     pub prev: f32,
     pub next: f32,

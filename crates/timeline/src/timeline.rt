@@ -306,9 +306,7 @@ impl Timeline {
     fn left(self, clock: Clock, marks: &[bool]) -> Timeline
         ensures { result ≡ with_track self (with_marks self.track clock marks.now) }
     {
-        let before = self.track;
-        let track = before.with_marks(clock, marks);
-        self.with_track(track)
+        self.with_track(self.track.with_marks(clock, marks))
     }
 
     // The run: the base times the number of passes, infinite for the endless modes.
@@ -319,6 +317,7 @@ impl Timeline {
     }
 
     // Advances by dt seconds, with each leaf's reply (0 stopped, 1 running). The list takes the numbers of the entries that completed.
+    // Not by `moved`, tried: of a list that a closure takes along a proof knows nothing after the call.
     pub fn update(
         self,
         dt: f32,

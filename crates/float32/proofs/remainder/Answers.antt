@@ -35,9 +35,9 @@ returns-then-not-is_finite c = none-finite c.args.x c.args.y (sym c.is_finite.en
 
 pub returns-then-is_nan : goal.returns-then-is_nan
 returns-then-is_nan c =
-    let e : nan ≡ c.args.y = only_nan c.args.y (sym c.is_nan.ensures ∙ c.if-is_nan.true) in
+    let e : nan ≡ c.args.y = only_nan c.args.y (sym c.is_nan.ensures.value ∙ c.if-is_nan.true) in
     subst (λ (y : Float). y ≡ rem binary32 c.args.x y) e (by-nan c.args.x)
 
 pub returns-then-not-is_finite-2 : goal.returns-then-not-is_finite-2
 returns-then-not-is_finite-2 c =
-    by-infinity c.args.x c.args.y (sym c.is_finite.ensures ∙ c.if-not-is_finite.false) (sym c.is_nan.ensures ∙ c.if-is_nan.false) (sym c.is_finite-2.ensures ∙ c.if-not-is_finite-2.true)
+    by-infinity c.args.x c.args.y (sym c.is_finite.ensures ∙ c.if-not-is_finite.false) (sym c.is_nan.ensures.value ∙ c.if-is_nan.false) (sym c.is_finite-2.ensures ∙ c.if-not-is_finite-2.true)

@@ -1,15 +1,16 @@
--- `count` counts cycle by cycle: those counted and those of the cycles still to come are all of them.
+-- `count` counts cycle by cycle: those counted and those of the cycles still to come are all of them, and so are the turns.
 use mathlib.Core.Path.{◌≡◌}
-use Prim.Native.Nat.{◌+◌, ◌-◌, ◌≤◌, ◌^◌}
+use Prim.Native.Nat.{◌+◌, ◌-◌, ◌≤◌}
 use lib.ListN.{length}
-use Rattle.completions.specs.Completions.{last_cycle, cycles, cycles_from}
+use Rattle.completions.specs.Completions.{cycles_from}
 use Rattle.completions.specs.Columns.{ends}
-use Rattle.completions.specs.Prompt.{turns}
+use Rattle.completions.specs.Prompt.{turns_from}
+use Rattle.completions.proofs.InRange.{InRange, still, turns_left}
 use Rattle.completions.proofs.Walk.count.Given as goal
 
-abbrev pub invariant-loop-stop : goal.invariant-loop-stop
-invariant-loop-stop l =
-    (l.m ≤ l.room) × (l.m + length (cycles l.self (ends l.spans) (2 ^ 32) l.stop l.cycle) ≡ length (cycles_from l.self (ends l.spans) l.first)) × (l.cycle ≤ last_cycle)
-
-abbrev pub decreases-loop-stop : goal.decreases-loop-stop
-decreases-loop-stop l = turns l.self (ends l.spans) (l.room - l.m) (2 ^ 32) l.stop l.cycle
+abbrev pub invariant-loop-cycle : goal.invariant-loop-cycle
+invariant-loop-cycle l =
+    InRange l.first l.cycle-iterator
+    × (l.m ≤ l.room)
+    × (l.m + length (still l.self (ends l.spans) l.cycle-iterator) ≡ length (cycles_from l.self (ends l.spans) l.first))
+    × (length l.yielded + turns_left l.self (ends l.spans) (l.room - l.m) l.cycle-iterator ≡ turns_from l.self (ends l.spans) l.room l.first)

@@ -1,56 +1,63 @@
--- `write` stores cycle by cycle: the stores made and those of the cycles still to come are all of them.
-use mathlib.Core.Path.{◌≡◌, refl, ap, ◌∙◌}
-use mathlib.Core.List.{[]}
-use Prim.Native.Nat.{◌^◌}
+-- `write` stores cycle by cycle: the stores made and those of the cycles still to come are all of them, and so are the turns.
+use mathlib.Core.Path.{◌≡◌, refl, ap, sym, ◌∙◌}
+use mathlib.Core.List.{[], ◌∷◌}
 use native.Mathlib.Omega.{arith}
 use lib.ListN.{length, length-append}
 use lib.Seq.{sets, length-sets}
-use borrow.Author.Rules.{rules}
-use Rattle.completions.specs.Completions.{in_cycle, cycles, cycles_from}
+use Rattle.std.specs.Range.{range_inclusive_start, range_inclusive_end, range_inclusive_exhausted}
+use Rattle.completions.specs.Completions.{in_cycle, cycles_from}
 use Rattle.completions.specs.Columns.{ends}
 use Rattle.completions.proofs.Cycle.{store_run, store_all}
-use Rattle.completions.proofs.Cycles.{cycles-stop, turn}
-use Rattle.completions.proofs.Turns.{turns-less}
+use Rattle.completions.proofs.InRange.{still, first_in, first_still, first_turns, in_range, still_turn, still_end, still_broken, turns_turn}
 use Rattle.completions.proofs.Walk.write.Goals as goal
 
-pub loop-stop-init : goal.loop-stop-init
-loop-stop-init c =
-    (search rules, rw c.breaks_at-stop.ensures (omega arith), rw c.breaks_at-stop.ensures, search rules)
+pub loop-cycle-init : goal.loop-cycle-init
+loop-cycle-init c =
+    let a = c.args in
+    let o = c.onward-cycle-items.ensures in
+    let i = c.into_iter-cycle-iterator.ensures.into_iter_gives in
+    let it = c.into_iter-cycle-iterator.result in
+    let from = ap range_inclusive_start i ∙ o.0 in
+    let to = ap range_inclusive_end i ∙ o.1 in
+    let left = ap range_inclusive_exhausted i ∙ o.2 in
+    let e = first_still a.self a.first it from to left (ends a.spans) in
+    (first_in a.self a.first it from to left, refl, omega (arith, ap length e), ap (sets a.list.now 0) e, omega (arith, first_turns a.self a.first it from to left (ends a.spans) (length (cycles_from a.self (ends a.spans) a.first)) _ (ap length e)))
 
 pub write_cycle-m-requires : goal.write_cycle-m-requires
 write_cycle-m-requires c =
     let a = c.args in
-    let l = c.loop-stop in
-    let e = turn a.self (ends a.spans) l.cycle c.loop-stop-test.true c.cycle_start.ensures refl refl in
+    let l = c.loop-cycle in
+    let e = still_turn a.self (ends a.spans) l.cycle-iterator c.next.new.self c.next.result c.next.ensures.steps c.in-Some.cycle c.in-Some.is a.first l.invariant.0 (sym c.breaks_at.ensures ∙ c.if-breaks_at.false) c.cycle_start.ensures in
     (c.requires.0, omega (arith, c.requires, simp length-append at (ap length e)))
 
-pub loop-stop-smaller : goal.loop-stop-smaller
-loop-stop-smaller c =
+pub loop-cycle-preserved : goal.loop-cycle-preserved
+loop-cycle-preserved c =
     let a = c.args in
-    let l = c.loop-stop in
-    let s = c.cycle_start in
-    let e = turn a.self (ends a.spans) l.cycle c.loop-stop-test.true s.ensures c.saturating_add-cycle.ensures c.stops_at-stop.ensures in
-    let k = simp length-append at (ap length e) in
-    turns-less a.self (ends a.spans) (length (cycles a.self (ends a.spans) (2 ^ 32) l.stop l.cycle)) _ l.cycle c.loop-stop-test.true
-    s.ensures refl (omega (arith, k)) (omega (arith, k)) c.saturating_add-cycle.ensures c.stops_at-stop.ensures
-
-pub loop-stop-preserved : goal.loop-stop-preserved
-loop-stop-preserved c =
-    let a = c.args in
-    let l = c.loop-stop in
+    let l = c.loop-cycle in
     let w = c.write_cycle-m in
-    let e = turn a.self (ends a.spans) l.cycle c.loop-stop-test.true c.cycle_start.ensures c.saturating_add-cycle.ensures c.stops_at-stop.ensures in
+    let b = sym c.breaks_at.ensures ∙ c.if-breaks_at.false in
+    let e = still_turn a.self (ends a.spans) l.cycle-iterator c.next.new.self c.next.result c.next.ensures.steps c.in-Some.cycle c.in-Some.is a.first l.invariant.0 b c.cycle_start.ensures in
     let these = in_cycle a.self c.cycle_start.result 0 (ends a.spans) in
+    let k = simp length-append at (ap length e) in
+    let n = turns_turn a.self (ends a.spans) l.cycle-iterator c.next.new.self c.next.result c.next.ensures.steps c.in-Some.cycle c.in-Some.is a.first l.invariant.0 (length (still a.self (ends a.spans) l.cycle-iterator)) {n = length these} {room' = length (still a.self (ends a.spans) c.next.new.self)} b c.cycle_start.ensures refl (omega (arith, k)) (omega (arith, k)) in
     let stored : w.new.list ≡ sets l.list l.m these = w.ensures.1 in (
-      ap length stored ∙ length-sets l.list l.m these ∙ l.invariant.0,
-      omega (arith, w.ensures.0, simp length-append at (ap length e)),
-      store_run l.list l.m _ w.result these (cycles a.self (ends a.spans) (2 ^ 32) c.stops_at-stop.result c.saturating_add-cycle.result) _ stored w.ensures.0 e ∙ l.invariant.2,
-      rw c.saturating_add-cycle.ensures (omega arith),
+      in_range a.self (ends a.spans) l.cycle-iterator c.next.new.self c.next.result c.next.ensures.steps c.in-Some.cycle c.in-Some.is a.first l.invariant.0,
+      ap length stored ∙ length-sets l.list l.m these ∙ l.invariant.1,
+      omega (arith, w.ensures.0, k),
+      store_run l.list l.m _ w.result these _ _ stored w.ensures.0 e ∙ l.invariant.3,
+      omega (arith, n, length-append l.yielded (c.in-Some.cycle ∷ [])),
     )
 
-pub returns : goal.returns
-returns c =
+pub returns-in-None : goal.returns-in-None
+returns-in-None c =
     let a = c.args in
-    let l = c.loop-stop in
-    let z : cycles a.self (ends a.spans) (2 ^ 32) l.stop l.cycle ≡ [] = rw c.loop-stop-test.false (cycles-stop a.self (ends a.spans) (2 ^ 32) l.cycle) in
-    (rw z at l.invariant.2) ∙ store_all (cycles_from a.self (ends a.spans) a.first) a.list.now c.requires.1
+    let l = c.loop-cycle in
+    let z : still a.self (ends a.spans) l.cycle-iterator ≡ [] = still_end a.self (ends a.spans) l.cycle-iterator c.next.new.self c.next.result c.next.ensures.steps c.in-None.is in
+    (rw z at l.invariant.3) ∙ store_all (cycles_from a.self (ends a.spans) a.first) a.list.now c.requires.1
+
+pub returns-then-breaks_at : goal.returns-then-breaks_at
+returns-then-breaks_at c =
+    let a = c.args in
+    let l = c.loop-cycle in
+    let z : still a.self (ends a.spans) l.cycle-iterator ≡ [] = still_broken a.self (ends a.spans) l.cycle-iterator c.next.new.self c.next.result c.next.ensures.steps c.in-Some.cycle c.in-Some.is (sym c.breaks_at.ensures ∙ c.if-breaks_at.true) in
+    (rw z at l.invariant.3) ∙ store_all (cycles_from a.self (ends a.spans) a.first) a.list.now c.requires.1

@@ -1,38 +1,25 @@
 -- Header, pairs and records in turn.
-use mathlib.Core.Path.{◌≡◌, sym, ◌∙◌}
+use mathlib.Core.Path.{◌≡◌, ◌∙◌}
 use borrow.Author.Rules.{rules}
 use Rattle.refusal.specs.Refusal.{number, number_in}
 use Rattle.sheet_format.specs.Check.{check_number}
 use Rattle.refusal.proofs.Numbers.{refused}
-use Rattle.sheet_format.proofs.Accepted.{header-accepted}
+use Rattle.sheet_format.proofs.InTurn.{pairs_refused, records_told}
 use Rattle.sheet_format.proofs.checks.check.Goals as goal
 
-pub returns-in_err-check_header : goal.returns-in_err-check_header
+pub returns-in_err-sheet : goal.returns-in_err-sheet
 unfolding check_number
-returns-in_err-check_header c =
-    let e : number_in c.from_residual.result ≡ number c.in_err-check_header.field-0.0 = search rules in
-    e ∙ rw (← c.in_err-check_header.ensures, refused c.in_err-check_header.field-0.0)
-
-pub check_pairs-requires : goal.check_pairs-requires
-check_pairs-requires c =
-    let h = header-accepted _ (sym c.in_ok-check_header.ensures) in
-    rw c.count-n.ensures (h.few, h.room)
+returns-in_err-sheet c =
+    let e : number_in c.from_residual.result ≡ number c.in_err-sheet.field-0.0 = search rules in
+    e ∙ rw (← c.in_err-sheet.ensures.number, refused c.in_err-sheet.field-0.0)
 
 pub returns-in_err-check_pairs : goal.returns-in_err-check_pairs
-unfolding check_number
 returns-in_err-check_pairs c =
+    let x = c.in_ok-sheet in
     let e : number_in c.from_residual-in_err-check_pairs.result ≡ number c.in_err-check_pairs.field-0.0 = search rules in
-    let pairs = rw c.count-n.ensures at c.in_err-check_pairs.ensures in
-    e ∙ rw (← c.in_ok-check_header.ensures, ← pairs, refused c.in_err-check_pairs.field-0.0)
-
-pub check_records-requires : goal.check_records-requires
-check_records-requires c =
-    let h = header-accepted _ (sym c.in_ok-check_header.ensures) in
-    rw c.count-n.ensures (h.few, h.room)
+    e ∙ pairs_refused c.args.sheet.now x.sheet.bytes.now x.sheet.count x.ensures.same x.sheet.counted x.ensures.number c.in_err-check_pairs.field-0.0 c.in_err-check_pairs.ensures
 
 pub returns : goal.returns
-unfolding check_number
 returns c =
-    let pairs = rw c.count-n.ensures at c.in_ok-check_pairs.ensures in
-    let records = rw c.count-n.ensures at c.check_records.ensures in
-    records ∙ rw (← c.in_ok-check_header.ensures, ← pairs)
+    let x = c.in_ok-sheet in
+    records_told c.args.sheet.now x.sheet.bytes.now x.sheet.count x.ensures.same x.sheet.counted x.ensures.number _ c.in_ok-check_pairs.ensures c.check_records.ensures

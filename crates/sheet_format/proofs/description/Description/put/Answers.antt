@@ -4,44 +4,30 @@ use native.Mathlib.Omega.{arith}
 use Rattle.sheet_rules.specs.Rules.{labels_at}
 use Rattle.sheet_format.specs.Descriptions.{items_in}
 use Rattle.sheet_format.specs.Write.{header_bytes, pairs_of, records_of, texts_of, sheet_of}
-use Rattle.sheet_format.proofs.Sheets.{described, fitting, length-header}
+use Rattle.sheet_format.proofs.Sheets.{length-header}
 use Rattle.sheet_format.proofs.Stores.{put_at_parts}
 use Rattle.sheet_format.proofs.Turns.{length_pairs, length-records}
 use Rattle.sheet_format.proofs.description.Description.put.Goals as goal
 
-pub overflow_cast-self : goal.overflow_cast-self
-overflow_cast-self c = omega (arith, (described _ c.requires.0).few)
-
-pub put_header-requires : goal.put_header-requires
-put_header-requires c =
-    let g = fitting _ _ (rw c.items-items.ensures.value at c.items-items.ensures.len) c.requires.0 c.requires.1 in
-    omega (arith, g.fits)
-
 pub put_pairs-requires : goal.put_pairs-requires
 put_pairs-requires c =
-    let g = fitting _ _ (rw c.items-items.ensures.value at c.items-items.ensures.len) c.requires.0 c.requires.1 in
-    rw (c.items-items.ensures.value, g.items) (g.few, omega (arith, g.fits))
+    rw (c.items-items.ensures.value, c.requires.items) (c.requires.few, omega (arith, c.requires.fits))
 
 pub put_records-requires : goal.put_records-requires
 put_records-requires c =
-    let g = fitting _ _ (rw c.items-items.ensures.value at c.items-items.ensures.len) c.requires.0 c.requires.1 in
-    rw (c.items-items.ensures.value, g.items) (g.few, omega (arith, g.fits), g.targets)
-
-pub labels_at-requires : goal.labels_at-requires
-labels_at-requires c = omega (arith, (described _ c.requires.0).few, c.items-items.ensures.len)
+    rw (c.items-items.ensures.value, c.requires.items) (c.requires.few, omega (arith, c.requires.fits), c.requires.targets)
 
 pub put_texts-requires : goal.put_texts-requires
 put_texts-requires c =
-    let g = fitting _ _ (rw c.items-items.ensures.value at c.items-items.ensures.len) c.requires.0 c.requires.1 in
-    let e = rw (c.items-items.ensures.value, g.items) at c.labels_at.ensures in
-    rw c.items-items.ensures.value (omega (arith, e, g.fits))
+    let e = rw (c.items-items.ensures.value, c.requires.items) at c.labels_at.ensures in
+    rw c.items-items.ensures.value (omega (arith, e, c.requires.fits))
 
 pub returns : goal.returns
 unfolding sheet_of
 returns c =
     let d = c.args.self.now in
     let v = c.items-items.ensures.value in
-    let g = fitting d _ (rw v at c.items-items.ensures.len) c.requires.0 c.requires.1 in
+    let g = c.requires in
     let e = rw (v, g.items) at c.labels_at.ensures in
     let pairs = rw (v, g.items) at c.put_pairs.ensures in
     let records = rw (v, g.items) at c.put_records.ensures in

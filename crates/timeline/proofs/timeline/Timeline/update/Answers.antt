@@ -1,5 +1,5 @@
 -- `update` is the step that `Update` says.
-use mathlib.Core.Path.{◌≡◌, refl, sym}
+use mathlib.Core.Path.{◌≡◌, refl}
 use Rattle.std.proofs.Common.{rules, Ok, Err}
 use lib.ListN.{length}
 use Rattle.steps.specs.Times.{max_entries}
