@@ -1,9 +1,10 @@
 // The builders: what they build is what plays next.
-use group::group::{AnimationGroup, GroupBuilt};
+use group::group::AnimationGroup;
 use group::item::Built;
 use group::sequence::Sequence;
 use group::stagger::stagger;
 use refusal::{ACCEPTED, Refusal, number_if, number_in};
+use timeline::timeline::Timeline;
 use trace_places::run::Run;
 use trace_read::{Builder, Cursor, Cut, Item, ROWS};
 
@@ -11,24 +12,29 @@ use trace_read::{Builder, Cursor, Cut, Item, ROWS};
 const ITEMS: usize = 256;
 
 // Stagger, and a group's parallel, sequence and stagger.
-pub(crate) fn building(run: &mut Run<'_>, cursor: &mut Cursor<'_>, how: Builder) -> Result<(), Cut> {
+pub(crate) fn building(
+    run: &mut Run<'_>,
+    cursor: &mut Cursor<'_>,
+    how: Builder,
+) -> Result<(), Cut> {
     let mut room = [0.0; ROWS];
     let durations = cursor.durations(&mut room)?;
     let built = match how {
         Builder::Stagger(delay) => stagger(durations, delay),
-        Builder::GroupParallel => timeline_of(AnimationGroup::parallel(durations)),
-        Builder::GroupSequence => timeline_of(AnimationGroup::sequence(durations)),
-        Builder::GroupStagger(pattern) => timeline_of(AnimationGroup::stagger(durations, pattern)),
+        Builder::GroupParallel => ungrouped(AnimationGroup::parallel(durations)),
+        Builder::GroupSequence => ungrouped(AnimationGroup::sequence(durations)),
+        Builder::GroupStagger(pattern) => ungrouped(AnimationGroup::stagger(durations, pattern)),
     };
-    run.replace(built.timeline, number_if(built.refusal));
+    run.replace(built.panel, number_if(built.refusal));
     trace_lines::entries(run.sink, &run.timeline);
     Ok(())
 }
 
-fn timeline_of(built: GroupBuilt) -> Built {
+// A group's timeline. A function, since neither type is this crate's, and so no `From` could stand here.
+fn ungrouped(built: Built<AnimationGroup>) -> Built<Timeline> {
     Built {
         refusal: built.refusal,
-        timeline: built.group.timeline(),
+        panel: built.panel.timeline(),
     }
 }
 

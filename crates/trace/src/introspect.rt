@@ -11,7 +11,7 @@ pub(crate) fn timeline(run: &mut Run<'_>) {
 
 // Of the group around the timeline.
 pub(crate) fn group(run: &mut Run<'_>) {
-    let group = AnimationGroup::from_timeline(run.timeline);
+    let group = AnimationGroup::from(run.timeline);
     shown(run, group.introspect());
 }
 

@@ -7,7 +7,7 @@ use trace_read::Room;
 
 pub(crate) fn reversing(run: &mut Run<'_>, room: Room) {
     let mut rows = LentRows::new(room);
-    let group = AnimationGroup::from_timeline(run.timeline);
+    let group = AnimationGroup::from(run.timeline);
     let answer = group.reverse(&mut rows.lend());
     run.replace(answer.unwrap_or(group).timeline(), number_in(&answer));
     trace_lines::rows(run.sink, &rows);

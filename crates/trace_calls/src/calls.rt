@@ -64,7 +64,10 @@ pub fn add(run: &mut Run<'_>, entry: Added<'_>) {
 pub fn add_boxed(run: &mut Run<'_>, entry: Added<'_>) {
     let t = run.timeline;
     let at = at(&t, entry.at);
-    added(run, t.add_boxed_with_duration(entry.label, at, entry.duration));
+    added(
+        run,
+        t.add_boxed_with_duration(entry.label, at, entry.duration),
+    );
 }
 
 fn added(run: &mut Run<'_>, answer: Result<Timeline, Refusal>) {

@@ -8,9 +8,10 @@ use case_io::fields::digit;
 use case_io::text::Sink;
 use label::Label;
 use lent::LentRows;
+use player::engine::Updated;
 use refusal::Refusal;
 use steps::Entry;
-use timeline::timeline::{Timeline, Updated};
+use timeline::timeline::Timeline;
 
 // `i call refusal state elapsed scale fired count base run progress marks`
 pub fn call(sink: &mut Sink, number: usize, byte: u8, refusal: u8, t: &Timeline) {
@@ -29,11 +30,11 @@ pub fn call(sink: &mut Sink, number: usize, byte: u8, refusal: u8, t: &Timeline)
 
 // 0 or 1 for each entry, or `-`.
 fn marks(sink: &mut Sink, t: &Timeline) {
-    let n = t.entry_count();
-    if n == 0 {
+    let entries = t.track.entries();
+    if entries.is_empty() {
         sink.byte(b'-');
     }
-    for e in t.track.entries.iter().take(n) {
+    for e in entries {
         sink.byte(digit(e.done));
     }
 }
@@ -44,6 +45,7 @@ pub fn rows(sink: &mut Sink, lent: &LentRows) {
     let amounts = lent.amounts.slice();
     let places = lent.places.slice();
     sink.bytes(b"  rows");
+    // By the row's number: a `zip` ends with the shortest.
     for i in 0..kinds.len().max(amounts.len()).max(places.len()) {
         match kinds.get(i) {
             Some(kind) => sink.number(b' ', usize::from(*kind)),
@@ -64,15 +66,16 @@ fn part(sink: &mut Sink, x: Option<&f32>) {
 }
 
 // `  update running completed listed` and each byte of the list. A refused update neither runs nor completes, and lists nothing.
-pub fn update(sink: &mut Sink, answer: &Result<Updated, Refusal>, list: &[u8]) {
-    let (running, completed, listed) = match answer {
-        Ok(u) => (u.running, u.completed, u.listed),
-        Err(_) => (false, false, 0),
-    };
+pub fn update(sink: &mut Sink, answer: Result<Updated, Refusal>, list: &[u8]) {
+    let shown = answer.unwrap_or(Updated {
+        running: false,
+        completed: false,
+        listed: 0,
+    });
     sink.bytes(b"  update");
-    sink.letter(b' ', digit(running));
-    sink.letter(b' ', digit(completed));
-    sink.number(b' ', listed);
+    sink.letter(b' ', digit(shown.running));
+    sink.letter(b' ', digit(shown.completed));
+    sink.number(b' ', shown.listed);
     for number in list {
         sink.number(b' ', usize::from(*number));
     }
@@ -82,7 +85,7 @@ pub fn update(sink: &mut Sink, answer: &Result<Updated, Refusal>, list: &[u8]) {
 // `  entries` and each entry.
 pub fn entries(sink: &mut Sink, t: &Timeline) {
     sink.bytes(b"  entries");
-    for (e, label) in t.track.entries.iter().zip(&t.labels).take(t.entry_count()) {
+    for (e, label) in t.track.entries().iter().zip(&t.labels) {
         entry(sink, e, label);
     }
     sink.byte(b'\n');

@@ -1,7 +1,7 @@
 // The calls that move what plays: each is made by value and in place, and its lines are printed.
 use refusal::number_in;
 use trace_lines::lent::{self, LentRows};
-use trace_places::in_place::{moved, same_answers};
+use trace_places::in_place::moved;
 use trace_places::run::Run;
 use trace_read::{Move, Room, Update};
 
@@ -21,12 +21,13 @@ pub fn moving(run: &mut Run<'_>, call: Move, room: Room) {
 pub fn updating(run: &mut Run<'_>, u: Update<'_>) {
     let mut rows = LentRows::new(u.room);
     let mut list = lent::list(u.list);
-    let answer = run
+    let made = run
         .timeline
         .update(u.dt, u.replies, list.lend(), &mut rows.lend());
-    run.answered(answer.map(|a| a.timeline));
+    run.answered(made.map(|(_, left)| left));
     trace_lines::rows(run.sink, &rows);
-    trace_lines::update(run.sink, &answer, list.slice());
+    let answer = made.map(|(answer, _)| answer);
+    trace_lines::update(run.sink, answer, list.slice());
     let mut rows_in_place = LentRows::new(u.room);
     let mut list_in_place = lent::list(u.list);
     let in_place = run.place.update(
@@ -36,5 +37,5 @@ pub fn updating(run: &mut Run<'_>, u: Update<'_>) {
         &mut rows_in_place.lend(),
     );
     let same_lent = rows.same(&rows_in_place) && list.all == list_in_place.all;
-    run.compare(same_lent && same_answers(&answer, &in_place));
+    run.compare(same_lent && answer == in_place);
 }

@@ -1,9 +1,9 @@
 // The calls on a playhead and three columns, in place, and whether they leave what the calls by value left. The columns have more
 // places than the timeline has entries.
-use completions::Spans;
-use player::engine;
+use completions::SpanArrays;
+use player::engine::{Player, Updated, preview};
 use refusal::Refusal;
-use timeline::timeline::{Timeline, Updated};
+use timeline::timeline::Timeline;
 use trace_lines::lent::same_float;
 use trace_read::{Move, ROWS};
 use track::rows::Rows;
@@ -19,8 +19,7 @@ const SPARE_DURATION: f32 = 1.0e30;
 #[derive(Drop)]
 pub struct InPlace {
     pub head: Playhead,
-    starts: [f32; ROWS],
-    durations: [f32; ROWS],
+    held: SpanArrays<ROWS>,
     marks: [bool; ROWS],
 }
 
@@ -41,45 +40,33 @@ pub fn moved(t: Timeline, call: Move, rows: &mut Rows<'_>) -> Result<Timeline, R
 impl InPlace {
     // A timeline, laid out in columns, with spare values behind its entries.
     pub fn of(t: &Timeline) -> InPlace {
-        let mut starts = [SPARE_START; ROWS];
-        let mut durations = [SPARE_DURATION; ROWS];
+        let mut held = SpanArrays {
+            starts: [SPARE_START; ROWS],
+            durations: [SPARE_DURATION; ROWS],
+        };
         let mut marks = [true; ROWS];
-        let head = t.track.lay_out(&mut starts, &mut durations, &mut marks);
-        InPlace {
-            head,
-            starts,
-            durations,
-            marks,
-        }
+        let head = t
+            .track
+            .lay_out(&mut held.starts, &mut held.durations, &mut marks);
+        InPlace { head, held, marks }
     }
 
-    // Where the entries start, and how long they are.
-    fn spans(&self) -> Spans<'_> {
-        Spans {
-            starts: &self.starts,
-            durations: &self.durations,
-        }
-    }
-
-    // A call that moves what plays.
+    // A call that moves what plays. It makes its own player, as `update` does: a method that lends one out is not covered.
     pub fn make(&mut self, call: Move, rows: &mut Rows<'_>) -> Result<(), Refusal> {
-        let head = self.head;
-        let spans = Spans {
-            starts: &self.starts,
-            durations: &self.durations,
+        let mut player = Player {
+            head: self.head,
+            spans: self.held.spans(),
+            marks: &mut self.marks,
         };
-        let marks = &mut self.marks;
-        let clock = match call {
-            Move::Play => engine::play(head, spans, marks, rows),
-            Move::Reset => engine::reset(head, spans, marks, rows),
-            Move::Seek(to) => engine::seek(head, Share(to), spans, marks, rows),
-            Move::SeekAbs(to) => engine::seek_abs(head, Secs(to), spans, marks, rows),
-            Move::Preview(dt) => {
-                return engine::preview(head, dt, spans, marks, rows);
-            }
+        let answer = match call {
+            Move::Play => player.play(rows),
+            Move::Reset => player.reset(rows),
+            Move::Seek(to) => player.seek(Share(to), rows),
+            Move::SeekAbs(to) => player.seek_abs(Secs(to), rows),
+            Move::Preview(dt) => preview(player.head, dt, player.spans, player.marks, rows),
         };
-        self.head = head.with_clock(clock?);
-        Ok(())
+        self.head = player.head;
+        answer
     }
 
     // Call 4.
@@ -89,20 +76,18 @@ impl InPlace {
         replies: &[u8],
         list: &mut [u8],
         rows: &mut Rows<'_>,
-    ) -> Result<engine::Updated, Refusal> {
-        let head = self.head;
-        let spans = Spans {
-            starts: &self.starts,
-            durations: &self.durations,
+    ) -> Result<Updated, Refusal> {
+        let mut player = Player {
+            head: self.head,
+            spans: self.held.spans(),
+            marks: &mut self.marks,
         };
-        let answer = engine::update(head, dt, spans, &mut self.marks, replies, list, rows);
-        if let Ok(u) = answer {
-            self.head = head.with_clock(u.clock);
-        }
+        let answer = player.update(dt, replies, list, rows);
+        self.head = player.head;
         answer
     }
 
-    // Whether the clock is the timeline's.
+    // Whether the clock is the timeline's: by hand, since `==` would not tell floats by their bits.
     pub fn has_clock(&self, t: &Timeline) -> bool {
         let a = self.head.clock;
         let b = t.track.clock;
@@ -119,31 +104,19 @@ impl InPlace {
 
     // The marks are those of the entries, and the spare ones are as they were.
     fn has_marks(&self, t: &Timeline) -> bool {
-        let n = t.entry_count();
         let mut marks = self.marks.iter();
-        let mut live = t.track.entries.iter().take(n).zip(&mut marks);
+        let mut live = t.track.entries().iter().zip(&mut marks);
         live.all(|(e, mark)| e.done == *mark) && marks.all(|mark| *mark)
     }
 
     // Base, run and progress.
     fn has_times(&self, t: &Timeline) -> bool {
-        let spans = self.spans();
+        let spans = self.held.spans();
         same_float(self.head.duration(spans, &self.marks), t.duration())
             && same_float(
                 self.head.playback_duration(spans, &self.marks),
                 t.playback_duration(),
             )
             && same_float(self.head.progress(spans, &self.marks), t.progress())
-    }
-}
-
-// Whether an update by value and one in place are refused by the same, or answer the same.
-pub fn same_answers(a: &Result<Updated, Refusal>, b: &Result<engine::Updated, Refusal>) -> bool {
-    match (a, b) {
-        (Ok(a), Ok(b)) => {
-            a.running == b.running && a.completed == b.completed && a.listed == b.listed
-        }
-        (Err(a), Err(b)) => a == b,
-        _ => false,
     }
 }
