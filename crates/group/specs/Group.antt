@@ -10,17 +10,16 @@ use Rattle.tween.specs.declared.stagger_pattern.StaggerPattern.{StaggerPattern}
 use Rattle.tween.specs.StaggerPattern.{delay_of}
 use Rattle.track.specs.Tracks.{track_base, progress_of}
 use Rattle.track.specs.Calls.{Room, Seek}
+use Rattle.player.specs.declared.engine.Updated.{Updated}
 use Rattle.timeline.specs.declared.introspection.AnimationKind.TheVariants.{Group as GroupKind}
 use Rattle.timeline.specs.declared.introspection.AnimationIntrospection.{AnimationIntrospection}
 use Rattle.timeline.specs.declared.timeline.At.{At}
 use Rattle.timeline.specs.declared.timeline.At.TheVariants.{Absolute, Start}
 use Rattle.timeline.specs.declared.timeline.Timeline.{Timeline}
-use Rattle.timeline.specs.declared.timeline.Updated.{Updated}
 use Rattle.timeline.specs.Calls.{Call, On}
 use Rattle.timeline.specs.Introspections.{playback_state, introspection}
 use Rattle.group.specs.declared.group.AnimationGroup.{AnimationGroup}
 use Rattle.group.specs.declared.item.Built.{Built}
-use Rattle.group.specs.declared.group.GroupUpdated.{GroupUpdated}
 use Rattle.group.specs.Items.{item_calls, too_many, first_refusal, HandedOut, built_by}
 use Rattle.group.specs.Sequence.{cursor_after}
 
@@ -70,8 +69,8 @@ inner_moved (Ok g) = Ok g.inner
 inner_moved (Err r) = Err r
 
 -- the answer of an update of the group, as its timeline gives it
-abbrev pub inner_updated : Result GroupUpdated Refusal → Result Updated Refusal
-inner_updated (Ok u) = Ok (record { running = u.running; completed = u.completed; listed = u.listed; timeline = u.group.inner })
+abbrev pub inner_updated : Result (Updated × AnimationGroup) Refusal → Result (Updated × Timeline) Refusal
+inner_updated (Ok (u, g)) = Ok (u, g.inner)
 inner_updated (Err r) = Err r
 
 -- `reverse`: `self.inner.seek(1.0 - progress)`

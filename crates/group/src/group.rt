@@ -11,6 +11,7 @@ ghost use Rattle.group.specs.Group.{group_of, group_handed_out, inner_moved, inn
 use crate::item;
 use crate::item::{Built, ItemLabel};
 use crate::sequence::Sequence;
+use player::engine::Updated;
 use refusal::Refusal;
 use timeline::introspection::{AnimationIntrospection, AnimationKind};
 use timeline::timeline::{At, Timeline};
@@ -22,15 +23,6 @@ use tween::StaggerPattern;
 #[derive(Clone, Copy)]
 pub struct AnimationGroup {
     pub inner: Timeline,
-}
-
-// The answer of update: whether it still runs, whether the whole-run completion fired now, how many entries it listed, and the group.
-#[derive(Clone, Copy)]
-pub struct GroupUpdated {
-    pub running: bool,
-    pub completed: bool,
-    pub listed: usize,
-    pub group: AnimationGroup,
 }
 
 // The group of a timeline.
@@ -164,16 +156,11 @@ impl AnimationGroup {
         replies: &[u8],
         list: &mut [u8],
         rows: &mut Rows<'_>,
-    ) -> Result<GroupUpdated, Refusal>
+    ) -> Result<(Updated, AnimationGroup), Refusal>
         ensures { Updates self.inner dt replies (inner_updated result) list rows }
     {
-        let u = self.inner.update(dt, replies, list, rows)?;
-        Ok(GroupUpdated {
-            running: u.running,
-            completed: u.completed,
-            listed: u.listed,
-            group: AnimationGroup { inner: u.timeline },
-        })
+        let (updated, inner) = self.inner.update(dt, replies, list, rows)?;
+        Ok((updated, AnimationGroup { inner }))
     }
 
     // What is reported of it: its duration is the base.

@@ -32,7 +32,6 @@ use Rattle.clock.specs.declared.Reach.{Reach}
 use Rattle.clock.specs.Clocks.{within, reach_of, advanced_clock}
 use Rattle.track.specs.declared.rows.Rows.{Rows}
 use Rattle.track.specs.declared.track.Track.{Track}
-use Rattle.track.specs.declared.track.Playhead.{Playhead}
 use Rattle.track.specs.Tracks.{live, track_base, rows_of, moved}
 use Rattle.track.specs.Columns.{track_of}
 use Rattle.track.specs.Updates.{ticks, newly_done, Advance}

@@ -1,8 +1,8 @@
 -- Play, reset and the seeks: refused by 3, or sent by a rule.
 use Prim.Native.Nat.{ℕ}
-use mathlib.Core.Path.{◌≡◌, refl}
+use mathlib.Core.Path.{◌≡◌}
 use mathlib.Core.Bool.{Bool}
-use mathlib.Core.List.{List, map, foldl}
+use mathlib.Core.List.{map, foldl}
 use lib.ListN.{length}
 use lib.Ieee.{Float}
 use Rattle.float32.specs.Helpers.{zero_f, max_f}

@@ -54,13 +54,8 @@ impl Player<'_, '_> {
         let n = self.head.entries(self.spans, self.marks.len());
         rows.check(n)?;
         let run = self.run(n);
-        apply(
-            n,
-            self.head.clock.play_rule(run),
-            self.spans,
-            self.marks,
-            rows,
-        );
+        let rule = self.head.clock.play_rule(run);
+        apply(n, rule, self.spans, self.marks, rows);
         self.head = self.head.with_clock(self.head.clock.played(run.base));
         Ok(())
     }
@@ -85,13 +80,8 @@ impl Player<'_, '_> {
         let run = self.run(n);
         let total = run.total();
         let elapsed = clock::seek_to(total, clock::share_in(run, to.0));
-        apply(
-            n,
-            Rule::Sync(run.local_time(elapsed)),
-            self.spans,
-            self.marks,
-            rows,
-        );
+        let rule = Rule::Sync(run.local_time(elapsed));
+        apply(n, rule, self.spans, self.marks, rows);
         self.head = self.head.with_clock(self.head.clock.sought(total, elapsed));
         Ok(())
     }
@@ -106,18 +96,14 @@ impl Player<'_, '_> {
         let run = self.run(n);
         let total = run.total();
         let elapsed = clock::seek_to(total, to.0);
-        apply(
-            n,
-            Rule::Sync(run.local_time(elapsed)),
-            self.spans,
-            self.marks,
-            rows,
-        );
+        let rule = Rule::Sync(run.local_time(elapsed));
+        apply(n, rule, self.spans, self.marks, rows);
         self.head = self.head.with_clock(self.head.clock.sought(total, elapsed));
         Ok(())
     }
 
-    // `update`, with each leaf's reply. The list takes the numbers of the entries that completed.
+    // `update`, with each leaf's reply. The list takes the numbers of the entries that completed. Replies, list and rows are lent one by
+    // one: play and the seeks take the rows alone.
     pub fn update(
         &mut self,
         dt: f32,
@@ -187,13 +173,8 @@ impl Player<'_, '_> {
         };
         let found = completions::between(self.spans.first(n), run, step, list);
         let listed = found.ok_or(Refusal::ListTooShort)?;
-        apply(
-            n,
-            Rule::Sync(run.local_time(to.elapsed)),
-            self.spans,
-            self.marks,
-            rows,
-        );
+        let rule = Rule::Sync(run.local_time(to.elapsed));
+        apply(n, rule, self.spans, self.marks, rows);
         Ok(self.reach(to, listed))
     }
 

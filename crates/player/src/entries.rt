@@ -49,7 +49,8 @@ fn newly_done(e: Entry, s: Stepped) -> bool
     !e.done && s.done
 }
 
-// How many of n entries a tick would list.
+// How many of n entries a tick would list. By index, as the tick itself: zipped, the four slices would be taken apart as
+// `(((start, duration), done), reply)`, and the entry put together here.
 fn count_done(n: usize, step: Step, spans: Spans<'_>, marks: &[bool], replies: &[u8]) -> usize
     requires { Reads n spans marks.now × (n ≤ length replies.now) }
     ensures { result ≡ length (done_in n step spans.entry marks.now replies.now) }

@@ -1,7 +1,7 @@
 -- The calls of a script, made in place on what plays.
 use Prim.Native.Nat.{ℕ, ◌≤◌}
 use mathlib.Core.Path.{◌≡◌, refl, sym, ap, ◌∙◌}
-use mathlib.Core.Bool.{Bool, true, false, cond, ◌||◌}
+use mathlib.Core.Bool.{Bool, true, false, cond}
 use mathlib.Core.List.{List, [], map}
 use native.Mathlib.Omega.{arith}
 use borrow.Author.Tests.{ne_eqb, ltb-false}
@@ -18,13 +18,12 @@ use Rattle.steps.specs.Rows.{ruled}
 use Rattle.steps.specs.Times.{local_time}
 use Rattle.std.specs.Prelude.{Result, Ok, Err}
 use Rattle.refusal.specs.declared.Refusal.{Refusal}
-use Rattle.refusal.specs.Refusal.{accepted, number_in, held_or}
+use Rattle.refusal.specs.Refusal.{number_in, held_or}
 use Rattle.clock.specs.declared.Clock.{Clock}
 use Rattle.clock.specs.Clocks.{is_playing, next_elapsed, reach_of}
 use Rattle.track.specs.declared.rows.Rows.{Rows}
 use Rattle.track.specs.declared.track.Track.{Track}
 use Rattle.track.specs.declared.track.Playhead.{Playhead}
-use Rattle.track.specs.Columns.{with_clock_at}
 use Rattle.track.specs.Tracks.{live, track_base, rows_of}
 use Rattle.track.specs.Updates.{Advance, replies_bad, ticks, advanced, ended_at, playing}
 use Rattle.track.specs.Calls.{Room, TrackOut, short, refused_if, fitted, updated, updated_with, sent, sought_to, rested, advanced_to, track_silent, track_step}

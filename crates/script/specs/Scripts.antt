@@ -1,5 +1,5 @@
 -- The calls of a script (paper 01, "The door log program"), and what one answers. Definitions only.
-use Rattle.std.specs.Prelude.{ℕ, ◌≡◌, Bool, cond, List, eqb, length, Float, Result}
+use Rattle.std.specs.Prelude.{ℕ, ◌≡◌, cond, List, eqb, length, Float, Result}
 use Rattle.refusal.specs.declared.Refusal.{Refusal}
 use Rattle.refusal.specs.Refusal.{bad_call, number_in, held_or}
 use Rattle.steps.specs.Slices.{over}

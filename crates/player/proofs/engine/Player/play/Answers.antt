@@ -20,4 +20,4 @@ returns c =
     let r = c.args.rows.now in
     let run = c.run-run.ensures in
     let eb = base-own p c.entries-n.ensures run.1 in
-    moves-on p c.entries-n.ensures r c.check.ensures _ (play-sent (playing_in p) (room_in r) eb c.played.ensures (rw run.0 at c.play_rule.ensures)) (search rules) (record { head = c.with_clock-self.ensures; spans = refl; marks = refl }) c.apply.ensures
+    moves-on p c.entries-n.ensures r c.check.ensures _ (play-sent (playing_in p) (room_in r) eb c.played.ensures (rw run.0 at c.play_rule-rule.ensures)) (search rules) (record { head = c.with_clock-self.ensures; spans = refl; marks = refl }) c.apply.ensures

@@ -10,7 +10,7 @@ use Rattle.tween.specs.LoopMode.{is_once}
 use Rattle.tween.specs.declared.loop_mode.Loop.{Loop}
 use Rattle.steps.specs.declared.Entry.{Entry}
 use Rattle.steps.specs.Rows.{ruled}
-use Rattle.steps.proofs.Tests.{and-true}
+use Rattle.std.proofs.lemmas.Bool.{and_parts}
 use Rattle.completions.specs.Columns.{most_entries}
 use Rattle.clock.specs.Clocks.{advances, advance_rule, reach_of}
 use Rattle.track.specs.Tracks.{live, rows_of}
@@ -45,7 +45,7 @@ returns-then-ticks c =
     let run = c.run-run in
     let to = c.reach_of-to in
     let eb = based p.head p.spans.starts.now p.spans.durations.now p.marks.now c.args.n c.requires.0 run.ensures.1 in
-    let tests = and-true c.advances-advances.result c.is_once-once.result c.if-ticks.true in
+    let tests = and_parts c.advances-advances.result c.is_once-once.result c.if-ticks.true in
     let on : advances p.head.clock run.result.base ≡ true = sym c.advances-advances.ensures ∙ tests.0 in
     let once : is_once p.head.looping ≡ true = ap is_once (sym run.ensures.0) ∙ sym c.is_once-once.ensures ∙ tests.1 in
     let et : to.result ≡ reach_of p.head.looping run.result.base c.next_elapsed-next.result = to.ensures ∙ ap (λ (m : Loop). reach_of m run.result.base c.next_elapsed-next.result) run.ensures.0 in
