@@ -7,8 +7,9 @@
 ghost use Rattle.std.specs.Prelude.{◌≤◌, length};
 
 use caption::find_caption;
-use case_io::input::{read_record, read_word};
+use case_io::input::{Cut, read_record};
 use std::io::{Print, Stdin};
+use streams::read_full;
 
 const LIST: usize = 140_000;
 
@@ -28,10 +29,9 @@ fn main(rt: HostRuntime) {
 
 // Reads a number, or what there is of it.
 fn number(stdin: &mut Stdin) -> u32 {
-    match read_word(stdin) {
-        Some(word) => word.any(),
-        None => 0,
-    }
+    let mut bytes = [0; 4];
+    read_full(stdin, &mut bytes);
+    u32::from_le_bytes(bytes)
 }
 
 // Reads a record, or what there is of it, and answers how long it is.
@@ -39,7 +39,7 @@ fn record(stdin: &mut Stdin, room: &mut [u8]) -> usize
     ensures { result ≤ length room.new }
 {
     match read_record(stdin, room) {
-        Some(record) => record.any().len(),
+        Some(Ok(bytes) | Err(Cut(bytes))) => bytes.len(),
         None => 0,
     }
 }

@@ -5,10 +5,10 @@
 // longer, or that the input does not have whole, is `cut`, and the last.
 #![tactic(auto)]
 
-use caption::finder::Source;
+use caption::finder::{Caption, Source};
 use caption::{caption, find_caption};
 use case_io::fields;
-use case_io::input::{Part, read_record, read_word};
+use case_io::input::{Cut, read_record, read_word};
 use case_io::text::{Form, Sink};
 use std::io::Stdin;
 
@@ -22,7 +22,8 @@ fn main(rt: HostRuntime) {
     let mut list = [0u8; LIST];
     let mut sheet = [0u8; SHEET];
     let mut sink = Sink::new(rt.stdout(), Form::Text);
-    // A proved loop has to end, and nothing says that the input does: so it ends at a number of records that no run reaches.
+    // A proved loop has to end, and nothing says that the input does: so it ends at a number of records that no run reaches;
+    // `rt.forever()` would need leave to wait.
     for _ in 0..u64::MAX {
         let Some(first) = read_record(&mut stdin, &mut list) else {
             break;
@@ -36,10 +37,15 @@ fn main(rt: HostRuntime) {
 }
 
 // Reads the rest of a record and prints its line; prints none where the record is cut.
-fn answer(stdin: &mut Stdin, sink: &mut Sink, list: Part<&[u8]>, sheet: &mut [u8]) -> Option<()> {
-    let list = list.whole()?;
-    let sheet = read_record(stdin, sheet)?.whole()?;
-    let entry = read_word(stdin)?.whole()?;
+fn answer(
+    stdin: &mut Stdin,
+    sink: &mut Sink,
+    list: Result<&[u8], Cut<'_>>,
+    sheet: &mut [u8],
+) -> Option<()> {
+    let list = list.ok()?;
+    let sheet = read_record(stdin, sheet)?.ok()?;
+    let entry = read_word(stdin)?;
     line(sink, list, sheet, entry as usize);
     Some(())
 }
@@ -48,13 +54,15 @@ fn answer(stdin: &mut Stdin, sink: &mut Sink, list: Part<&[u8]>, sheet: &mut [u8
 fn line(sink: &mut Sink, list: &[u8], sheet: &[u8], entry: usize) {
     let found = find_caption(list, sheet, entry);
     sink.decimal(usize::from(refusal::number_in(&found)));
-    let (source, at, len) = match found {
-        Ok(found) => (found.source, found.at, found.len),
-        Err(_) => (Source::Sheet, 0, 0),
+    let refused = Caption {
+        source: Source::Sheet,
+        at: 0,
+        len: 0,
     };
-    sink.letter(b' ', source.letter());
-    sink.number(b' ', at);
-    sink.number(b' ', len);
+    let found = found.unwrap_or(refused);
+    sink.letter(b' ', found.source.letter());
+    sink.number(b' ', found.at);
+    sink.number(b' ', found.len);
     sink.byte(b' ');
     fields::hex(sink, caption(list, sheet, entry));
     sink.byte(b'\n');

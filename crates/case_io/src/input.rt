@@ -23,7 +23,8 @@ pub fn each_record<F: FnMut(&mut Sink, Result<&[u8], Cut<'_>>)>(
         return;
     };
     let mut sink = Sink::new(rt.stdout(), form);
-    // A proved loop has to end, and nothing says that the input does: so it ends at a number of records that no run reaches.
+    // A proved loop has to end, and nothing says that the input does: so it ends at a number of records that no run reaches;
+    // `rt.forever()` would need leave to wait.
     for number in 1..usize::MAX {
         let Some(record) = read_record(&mut stdin, room) else {
             return;

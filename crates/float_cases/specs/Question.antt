@@ -1,7 +1,8 @@
 -- What the program answers. Definitions only.
-use Rattle.std.specs.Prelude.{ℕ, Bool, cond, List, [], ◌∷◌, get_or, Float, Option, Some, None, Result, Ok, Err}
-use Rattle.std.specs.Float.Ieee.{eq, is_nan}
-use Rattle.float32.specs.Helpers.{zero_f, max_f, min_f, clamp_f, finite_f, from_u32, to_u32, infinity_f, from_bits, to_bits}
+use Rattle.std.specs.Prelude.{ℕ, Bool, cond, List, [], ◌∷◌, get_or, slice_index, Float, Option, Some, None, Result, Ok, Err}
+use Rattle.std.specs.Float.Ieee.{is_nan}
+use Rattle.float32.specs.Helpers.{max_f, min_f, clamp_f, finite_f, from_u32, to_u32, infinity_f, from_bits, to_bits}
+use Rattle.case_io.specs.Bits.{zeroless}
 use Rattle.refusal.specs.declared.Refusal.{Refusal}
 use Rattle.tween.specs.StaggerPattern.{origin_of, delay_of}
 use Rattle.tween.specs.declared.stagger_pattern.GridOrigin.{GridOrigin}
@@ -24,10 +25,6 @@ truth b = number (cond b 1 0)
 -- the bits of a float, the sign of a zero included
 abbrev pub exact : Float → Answer
 exact x = number (to_bits x)
-
--- the bits where "zeros of either sign agree"
-abbrev pub zeroless : Float → ℕ
-zeroless x = cond (eq x zero_f) 0 (to_bits x)
 
 -- the bits of what may be refused
 abbrev pub zeroless_in : Result Float Refusal → Result ℕ Refusal
@@ -60,6 +57,6 @@ answers a b c d e =
     ∷ Some (delayed (EdgesIn a (from_bits b)) c)
     ∷ []
 
--- the answer to question `op`
-unfoldable pub answer_of : ℕ → ℕ → ℕ → ℕ → ℕ → ℕ → Answer
-answer_of op a b c d e = get_or (answers a b c d e) op None
+-- the answer to question `op` on five operands
+unfoldable pub answer_of : ℕ → List ℕ → Answer
+answer_of op xs = get_or (answers (slice_index xs 0) (slice_index xs 1) (slice_index xs 2) (slice_index xs 3) (slice_index xs 4)) op None

@@ -7,6 +7,7 @@
 
 mod question;
 
+use std::io;
 use std::io::{Print, Stdin, Stdout};
 use streams::read_full;
 use words::u32_at;
@@ -21,18 +22,19 @@ const BLOCK: usize = 3072;
 // What an unknown question is refused by.
 const UNKNOWN: u8 = 255;
 
-// A proved loop has to end, and nothing says that the input does: so it ends at a number of turns that no run uses up.
+// Answers to the end of the input, or until a write fails. A proved loop has to end, and nothing says that the input does: so it ends at
+// a number of turns that no run uses up; `rt.forever()` would need leave to wait.
 fn main(rt: HostRuntime) {
     let mut stdin = rt.stdin();
     for _ in 0..u64::MAX {
-        if !answer_block(&mut stdin, rt.stdout()) {
+        if !answer_block(&mut stdin, rt.stdout()).unwrap_or(false) {
             return;
         }
     }
 }
 
 // Answers the next records, and says whether there may be more.
-fn answer_block(stdin: &mut Stdin, stdout: Stdout) -> bool {
+fn answer_block(stdin: &mut Stdin, stdout: Stdout) -> io::Result<bool> {
     let mut records = [[0; RECORD]; BLOCK];
     let mut lines = [[0; LINE]; BLOCK];
     let count = read_full(stdin, records.as_flattened_mut()).count;
@@ -40,20 +42,14 @@ fn answer_block(stdin: &mut Stdin, stdout: Stdout) -> bool {
     for (line, record) in lines.iter_mut().zip(&records).take(whole) {
         *line = line_of(record);
     }
-    stdout.write_all(lines[..whole].as_flattened()).is_ok() && count == RECORD * BLOCK
+    stdout.write_all(lines[..whole].as_flattened())?;
+    Ok(whole == BLOCK)
 }
 
 // The line of a record.
 fn line_of(record: &[u8; RECORD]) -> [u8; LINE] {
-    let answer = question::ask(
-        record[0],
-        u32_at(record, 1),
-        u32_at(record, 5),
-        u32_at(record, 9),
-        u32_at(record, 13),
-        u32_at(record, 17),
-    );
-    let (refusal, bits) = match answer {
+    let operands = [1, 5, 9, 13, 17].map(|at| u32_at(record, at));
+    let (refusal, bits) = match question::ask(record[0], operands) {
         Some(Ok(bits)) => (refusal::ACCEPTED, bits),
         Some(Err(refusal)) => (refusal.number(), 0),
         None => (UNKNOWN, 0),

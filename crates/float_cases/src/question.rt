@@ -1,22 +1,25 @@
 // What can be asked, by its number, and what is answered.
 ghost use Rattle.std.specs.Prelude.{◌≡◌};
-ghost use Rattle.float_cases.specs.Question.{answer_of, zeroless, delayed};
+ghost use Rattle.float_cases.specs.Question.{answer_of, delayed};
 
+use case_io::text::zeroless_bits;
 use refusal::Refusal;
 use tween::{GridOrigin, StaggerPattern};
 
 // The answer to question `op`: a number or a float's bits, or a refusal; none where there is no such question. A float among the
-// operands is given by its bits.
+// operands is given by its bits. The questions stand here alone by their numbers, which are the format's: an enum of them would only
+// say them twice.
 #[tactic(auto, unfolding(crate::specs::Question::answer_of))]
-pub(crate) fn ask(op: u8, a: u32, b: u32, c: u32, d: u32, e: u32) -> Option<Result<u32, Refusal>>
-    ensures { result ≡ answer_of op a b c d e }
+pub(crate) fn ask(op: u8, operands: [u32; 5]) -> Option<Result<u32, Refusal>>
+    ensures { result ≡ answer_of op operands }
 {
+    let [a, b, c, d, e] = operands;
     let x = float32::from_bits(a);
     let y = float32::from_bits(b);
     let z = float32::from_bits(c);
     match op {
-        0 => Some(Ok(zeroless(float32::max(x, y)))),
-        1 => Some(Ok(zeroless(float32::min(x, y)))),
+        0 => Some(Ok(zeroless_bits(float32::max(x, y)))),
+        1 => Some(Ok(zeroless_bits(float32::min(x, y)))),
         2 => Some(Ok(float32::to_bits(float32::clamp(x, y, z)))),
         3 => Some(Ok(u32::from(float32::is_nan(x)))),
         4 => Some(Ok(u32::from(float32::is_finite(x)))),
@@ -27,7 +30,7 @@ pub(crate) fn ask(op: u8, a: u32, b: u32, c: u32, d: u32, e: u32) -> Option<Resu
             let pattern = StaggerPattern::Grid {
                 cols: a,
                 rows: b,
-                origin: GridOrigin::from_number(c)?,
+                origin: GridOrigin::try_from(c).ok()?,
                 step: float32::from_bits(d),
             };
             Some(delayed(pattern, e))
@@ -46,16 +49,9 @@ pub(crate) fn ask(op: u8, a: u32, b: u32, c: u32, d: u32, e: u32) -> Option<Resu
     }
 }
 
-// A float's bits, with 0 for either zero, where the Rust leaves the sign open.
-fn zeroless(x: f32) -> u32
-    ensures { result ≡ zeroless x }
-{
-    if x == 0.0 { 0 } else { float32::to_bits(x) }
-}
-
 // The bits of a delay.
 fn delayed(pattern: StaggerPattern, index: u32) -> Result<u32, Refusal>
     ensures { result ≡ delayed pattern index }
 {
-    Ok(zeroless(pattern.delay(index)?))
+    Ok(zeroless_bits(pattern.delay(index)?))
 }
