@@ -14,7 +14,6 @@ use lib.Seq.{get_or-take, take-length}
 use Rattle.std.proofs.lemmas.List.{take_min}
 pub use Rattle.std.proofs.lemmas.List.{get_or-map as map_at}
 
--- a rule for `search`, which does not turn an equation such as `length-map`
 pub unmapped : {X Y : Type 0} (f : X → Y) (l : List X) (n : ℕ) → length (map f l) ≡ n → length l ≡ n
 unmapped f l n p = sym (length-map l f) ∙ p
 
