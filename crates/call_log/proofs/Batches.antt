@@ -11,16 +11,17 @@ use lib.ListN.{length, take, drop, length-take, length-drop}
 use lib.Seq.{drop-drop}
 use Rattle.std.specs.Prelude.{Option, None, Some}
 use Rattle.digits.specs.Digits.{put_at}
-use Rattle.completions.specs.declared.Spans.{Spans}
-use Rattle.track.specs.declared.rows.Rows.{Rows}
-use Rattle.track.specs.Answers.{SameSlices}
-use Rattle.track.specs.Columns.{track_of}
+use Rattle.track.specs.declared.track.Track.{Track}
+use Rattle.track.specs.declared.track.Playhead.{Playhead}
+use Rattle.track.specs.Columns.{with_clock_at}
+use Rattle.player.specs.declared.engine.Player.{Player}
+use Rattle.player.specs.Answered.{playing_in, SameColumns}
 use Rattle.call_log.specs.declared.Log.{Log}
-use Rattle.call_log.specs.declared.Turn.{Turn}
-use Rattle.call_log.specs.declared.Ran.{Ran}
-use Rattle.call_log.specs.Lines.{line_size, shown_all, Wrote}
-use Rattle.call_log.specs.Logs.{call_size}
-use Rattle.call_log.specs.Machine.{next_lines, next_bytes, next_log, least_bytes, is_next, no_calls, Calls, call_then, batch_from, batch_of, RunsTo}
+use Rattle.call_log.specs.Lines.{line_size, shown, shown_all, Wrote}
+use Rattle.call_log.specs.Logs.{call_size, outcome_at, call_line}
+use Rattle.call_log.specs.Machine.{counted, next_lines, next_bytes, next_log, log_in, Logs, least_bytes, is_next, no_calls, Calls, call_then, batch_from, batch_of, RunsTo}
+use Rattle.call_log.proofs.Fronts.{outcome-front, chunk_is}
+use Rattle.call_log.proofs.Making.{next-goes}
 use Rattle.call_log.proofs.Writing.{wrote_length, wrote_then, wrote_none, wrote_all}
 
 -- ---- one call more
@@ -34,6 +35,11 @@ none_next false room = refl
 pub some_bytes : (ended : Bool) → 1 ≤ least_bytes ended
 some_bytes true = omega arith
 some_bytes false = omega arith
+
+-- and no more than a call's bytes are asked for
+pub least_few : (ended : Bool) → least_bytes ended ≤ call_size
+least_few true = omega arith
+least_few false = omega arith
 
 and-false : (a b : Bool) → b ≡ false → a && b ≡ false
 and-false true b e = e
@@ -50,7 +56,7 @@ module _ (ended : Bool) (bytes : List ℕ) (room : ℕ) where
   pub no_room : least_bytes ended ≤ length bytes → room < line_size → is_next ended bytes room ≡ false
   no_room h i = rw (le-leb (least_bytes ended) (length bytes) h, lt-leb line_size room i)
 
-  none_fits : room < line_size → is_next ended bytes room ≡ false
+  pub none_fits : room < line_size → is_next ended bytes room ≡ false
   none_fits i = and-false _ _ (lt-leb line_size room i)
 
 -- what the bytes after a call are, by the bytes that it used
@@ -155,50 +161,49 @@ pub ruleset used = (none_used, all_used)
 
 -- ---- the loop
 
--- a log whose track plays in columns
-abbrev pub log_in : Turn → Spans → List Bool → Log
-log_in turn spans ms = record { number = turn.number; track = track_of turn.head spans.starts.now spans.durations.now ms }
-
--- the same slices, twice
-pub then_slices : {r s t : Rows} → SameSlices r s → SameSlices s t → SameSlices r t
-then_slices a b = record { kinds = b.kinds ∙ a.kinds; amounts = b.amounts ∙ a.amounts; places = b.places ∙ a.places }
-
--- So far: lines were written, and the whole batch is these and what is still to come.
-pub record SoFar (ended : Bool) (log₀ : Log) (bytes old out : List ℕ) (log : Log) (used len : ℕ) : Type 0 where
+-- So far: lines were written, and the whole batch is these and what is still to come of the rest.
+pub record SoFar (ended : Bool) (log₀ : Log) (bytes old out : List ℕ) (log : Log) (rest : List ℕ) (used len : ℕ) : Type 0 where
   pub text : List ℕ
   pub wrote : Wrote text 0 old out len
-  pub whole : batch_of ended log₀ bytes (length old) ≡ call_then used text (batch_of ended log (drop used bytes) (length old - len))
+  pub whole : batch_of ended (Some log₀) bytes (length old) ≡ call_then used text (batch_of ended (Some log) rest (length old - len))
+
+-- the same columns, twice
+pub then_columns : {p q r : Player} → SameColumns p q → SameColumns q r → SameColumns p r
+then_columns {r = r} a b = record { head = b.head ∙ ap (λ (h : Playhead). with_clock_at h r.head.clock) a.head; spans = b.spans ∙ a.spans; marks = b.marks ∙ a.marks }
 
 module _ (ended : Bool) (log₀ : Log) (bytes old : List ℕ) where
   -- nothing is written
-  pub none_yet : SoFar ended log₀ bytes old old log₀ 0 0
-  none_yet = record { text = []; wrote = wrote_none 0 old; whole = rw (zero-add, sub-zero) }
+  pub none_yet : (rest : List ℕ) → rest ≡ bytes → SoFar ended log₀ bytes old old log₀ rest 0 0
+  none_yet rest e = rw e (record { text = []; wrote = wrote_none 0 old; whole = rw (zero-add, sub-zero) })
 
-  -- the room stays as long as it was
-  pub same-room : {out : List ℕ} {log : Log} {used len : ℕ} → SoFar ended log₀ bytes old out log used len → len ≤ length old → length out ≡ length old
-  same-room s h = wrote_length s.wrote h
+  module _ (out : List ℕ) (log : Log) (rest : List ℕ) (used len : ℕ) (s : SoFar ended log₀ bytes old out log rest used len) where
+    -- the room stays as long as it was
+    pub same-room : len ≤ length old → length out ≡ length old
+    same-room h = wrote_length s.wrote h
 
-  -- one line more
-  pub one_more : (out new : List ℕ) (log : Log) (used len used' len' : ℕ) → SoFar ended log₀ bytes old out log used len
-      → is_next ended (drop used bytes) (length old - len) ≡ true
-      → new ≡ put_at (next_bytes log (drop used bytes)) len out → len' ≡ len + length (next_bytes log (drop used bytes)) → len' ≤ length old
-      → used' ≡ used + length (take call_size (drop used bytes))
-      → SoFar ended log₀ bytes old new (next_log log (drop used bytes)) used' len'
-  one_more out new log used len used' len' s e w l h u =
-      let rest = drop used bytes in
-      let line = next_bytes log rest in
-      let behind : drop used' bytes ≡ drop call_size rest =
-      ap (λ (i : ℕ). drop i bytes) u ∙ sym (drop-drop (length (take call_size rest)) used bytes) ∙ drop-taken call_size rest in
-      let room : length old - len' ≡ length old - len - length line = omega arith in
-      record {
-        text = s.text ++ line;
-        wrote = wrote_then s.wrote (record { bytes = w; ends = l }) h;
-        whole = rw (behind, room, u) (s.whole ∙ rw (more-calls ended log rest (length old - len) e, add_assoc, append_assoc));
-      }
+    -- one line more: that of a chunk x, before more
+    pub one_more : (x more new : List ℕ) (number n : ℕ) (p q : Player) → log.track ≡ playing_in p → number ≡ counted log.number
+        → rest ≡ x ++ more → length x ≡ min call_size (length rest) → least_bytes ended ≤ length rest → line_size ≤ length old - len
+        → Logs number p x n q len out new → len + n ≤ length old
+        → SoFar ended log₀ bytes old new (log_in number q) more (used + length x) (len + n)
+    one_more x more new number n p q ep en e size there room logs few =
+        let c = chunk_is rest x more e size in
+        let same : outcome_at (playing_in p) x ≡ outcome_at log.track rest =
+        rw ep (ap (outcome_at (playing_in p)) (sym c.0) ∙ outcome-front (playing_in p) rest call_size (omega arith)) in
+        let goes = next-goes log rest (omega (arith, some_bytes ended)) in
+        let line = shown (call_line (counted log.number) (outcome_at log.track rest)) in
+        let ln : n ≡ length line = rw (same, en) at logs.len in
+        let tr : playing_in q ≡ (outcome_at log.track rest).track = rw same at logs.track in
+        let left : length old - (len + n) ≡ length old - len - length line = omega arith in
+        record {
+          text = s.text ++ line;
+          wrote = wrote_then s.wrote (record { bytes = rw (same, en) at logs.text; ends = ap (len +◌) ln }) few;
+          whole = rw (tr, en, left) (s.whole ∙ rw (more-calls ended (Some log) rest (length old - len) (is-next ended rest (length old - len) there room), goes.0, goes.1, c.0, c.1, add_assoc, append_assoc));
+        }
 
-  -- no line more
-  pub no_more : (out : List ℕ) (log : Log) (used len : ℕ) (r : Ran) → r.used ≡ used → r.len ≡ len → SoFar ended log₀ bytes old out log used len → is_next ended (drop used bytes) (length old - len) ≡ false
-      → RunsTo (batch_of ended log₀ bytes (length old)) r log old out
-  no_more out log used len r u l s e =
-      let all : batch_of ended log₀ bytes (length old) ≡ call_then used s.text (no_calls log) = rw (no-calls ended log (drop used bytes) (length old - len) e) at s.whole in
-      rw (all, append-nil, add-zero) (record { used = u; len = l ∙ wrote_all s.wrote; log = refl; text = s.wrote.bytes })
+    -- no line more
+    pub no_more : (number : ℕ) (p q : Player) → log ≡ log_in number q → is_next ended rest (length old - len) ≡ false → SameColumns p q
+        → RunsTo (batch_of ended (Some log₀) bytes (length old)) (record { number = number; used = used; len = len }) p q old out
+    no_more number p q el e columns =
+        let all : batch_of ended (Some log₀) bytes (length old) ≡ call_then used s.text (no_calls (Some log)) = rw (no-calls ended (Some log) rest (length old - len) e) at s.whole in
+        rw (all, append-nil, add-zero, el) (record { used = refl; len = wrote_all s.wrote; log = refl; text = s.wrote.bytes; columns = columns })

@@ -8,6 +8,7 @@ use lib.Dec.{eqb, ltb}
 use lib.ListN.{length, take, drop, length-take}
 use lib.Seq.{take_all, take-length}
 use lib.Ieee.{Float}
+use Rattle.std.specs.Prelude.{Option, None, Some}
 use Rattle.steps.specs.declared.Entry.{Entry}
 use Rattle.steps.specs.Slices.{over}
 use Rattle.steps.specs.Times.{max_entries}
@@ -17,15 +18,19 @@ use Rattle.track.specs.Tracks.{live}
 use Rattle.track.specs.Columns.{entries_of, track_of, trimmed, laid_over}
 use Rattle.track.specs.Calls.{TrackCall, TrackOut, track_silent, track_step}
 use Rattle.track.specs.Claims.{put_back, restored}
+use Rattle.track.specs.Answers.{LaysOut}
+use Rattle.track.proofs.Laid.{all_laid}
 use Rattle.track.proofs.Columns.{length-entries}
 use Rattle.track.proofs.Marks.{over-over, over-part, take-over, over-all}
 use Rattle.track.proofs.Trimmed.{Sized, whole, step-sized}
+use Rattle.player.specs.declared.engine.Player.{Player}
+use Rattle.player.specs.Answered.{playing_in}
 use Rattle.script.specs.Scripts.{outcome_in}
 use Rattle.call_log.specs.declared.Log.{Log}
 use Rattle.call_log.specs.declared.Ran.{Ran}
 use Rattle.call_log.specs.Lines.{shown_all}
 use Rattle.call_log.specs.Logs.{call_size, outcome, outcome_at, call_line}
-use Rattle.call_log.specs.Machine.{counted, is_over, next_lines, next_log, next_bytes, is_next, Calls, batch_from, batch_of, batched_by, lined, RunsTo}
+use Rattle.call_log.specs.Machine.{counted, next_lines, next_log, next_bytes, log_in, is_next, Calls, batch_from, batch_of, batched_by, lined, RunsTo}
 
 -- a track is its live entries, put back
 pub own_back : (k : Track) → put_back k (trimmed k) ≡ k
@@ -84,15 +89,19 @@ module _ (k q : Track) (s : Sized (trimmed k) q) where
 -- ---- logs
 
 -- a log of the live entries, as one of the whole track k
-abbrev pub back_log : Track → Log → Log
-back_log k log = record { number = log.number; logging = log.logging; track = put_back k log.track }
+abbrev back_log : Track → Log → Log
+back_log k log = record { number = log.number; track = put_back k log.track }
 
-abbrev pub back_calls : Track → Calls → Calls
-back_calls k c = record { used = c.used; text = c.text; log = back_log k c.log }
+abbrev back_in : Track → Option Log → Option Log
+back_in k None = None
+back_in k (Some log) = Some (back_log k log)
 
--- the log after a call
-abbrev log_then : ℕ → TrackOut → Log
-log_then number o = record { number = counted number; logging = true; track = o.track }
+abbrev back_calls : Track → Calls → Calls
+back_calls k c = record { used = c.used; text = c.text; log = back_in k c.log }
+
+-- the log after a call, where there is one
+abbrev log_then : Bool → Log → TrackOut → Log
+log_then none log o = cond none log (record { number = counted log.number; track = o.track })
 
 module _ (k : Track) where
   cond-calls : (b : Bool) (x y : Calls) → cond b (back_calls k x) (back_calls k y) ≡ back_calls k (cond b x y)
@@ -101,35 +110,37 @@ module _ (k : Track) where
 
   -- the next line and log
   next-back : (log : Log) (rest : List ℕ) → Sized (trimmed k) log.track
-      → (next_lines (back_log k log) rest ≡ next_lines log rest) × (next_log (back_log k log) rest ≡ back_log k (next_log log rest)) × Sized (trimmed k) (next_log log rest).track
-  unfolding next_lines next_log call_line
-  next-back log rest s = go (is_over log rest)
+      → (next_lines (Some (back_log k log)) rest ≡ next_lines (Some log) rest)
+      × (log_then (eqb (length rest) 0) (back_log k log) (outcome_at (put_back k log.track) rest) ≡ back_log k (log_then (eqb (length rest) 0) log (outcome_at log.track rest)))
+      × Sized (trimmed k) (log_then (eqb (length rest) 0) log (outcome_at log.track rest)).track
+  unfolding next_lines call_line
+  next-back log rest s = go (eqb (length rest) 0)
     where
       back : Back k log.track s (outcome_at (put_back k log.track) rest) (outcome_at log.track rest)
       back = outcome-at-back k log.track s rest
 
       go : (b : Bool) → (cond b [] (call_line (counted log.number) (outcome_at (put_back k log.track) rest) ∷ []) ≡ cond b [] (call_line (counted log.number) (outcome_at log.track rest) ∷ []))
-          × (cond b (back_log k log) (log_then log.number (outcome_at (put_back k log.track) rest)) ≡ back_log k (cond b log (log_then log.number (outcome_at log.track rest))))
-          × Sized (trimmed k) (cond b log (log_then log.number (outcome_at log.track rest))).track
+          × (log_then b (back_log k log) (outcome_at (put_back k log.track) rest) ≡ back_log k (log_then b log (outcome_at log.track rest)))
+          × Sized (trimmed k) (log_then b log (outcome_at log.track rest)).track
       go true = (refl, refl, s)
-      go false = (ap (λ (o : TrackOut). call_line (counted log.number) o ∷ []) back.same, ap (log_then log.number) back.same, back.sized)
+      go false = (ap (λ (o : TrackOut). call_line (counted log.number) o ∷ []) back.same, ap (λ (o : TrackOut). record { number = counted log.number; track = o.track }) back.same, back.sized)
 
   batch-from-back : (fuel : ℕ) (ended : Bool) (log : Log) (bytes : List ℕ) (room : ℕ) → Sized (trimmed k) log.track
-      → batch_from fuel ended (back_log k log) bytes room ≡ back_calls k (batch_from fuel ended log bytes room)
-  unfolding batch_from
+      → batch_from fuel ended (Some (back_log k log)) bytes room ≡ back_calls k (batch_from fuel ended (Some log) bytes room)
+  unfolding batch_from next_log
   batch-from-back zero ended log bytes room s = refl
   batch-from-back (suc n) ended log bytes room s =
       let next = next-back log bytes s in
-      let line : next_bytes (back_log k log) bytes ≡ next_bytes log bytes = ap shown_all next.0 in
-      rw (line, next.1, batch-from-back n ended (next_log log bytes) (drop call_size bytes) (room - length (next_bytes log bytes)) next.2)
+      let line : next_bytes (Some (back_log k log)) bytes ≡ next_bytes (Some log) bytes = ap shown_all next.0 in
+      rw (line, next.1, batch-from-back n ended (log_then (eqb (length bytes) 0) log (outcome_at log.track bytes)) (drop call_size bytes) (room - length (next_bytes (Some log) bytes)) next.2)
       (cond-calls (is_next ended bytes room) _ _)
 
 -- a batch on the whole track
-pub batch_back : (ended : Bool) (log : Log) (bytes : List ℕ) (room : ℕ)
-    → batch_of ended log bytes room ≡ back_calls log.track (batch_of ended (record { number = log.number; logging = log.logging; track = trimmed log.track }) bytes room)
+batch_back : (ended : Bool) (log : Log) (bytes : List ℕ) (room : ℕ)
+    → batch_of ended (Some log) bytes room ≡ back_calls log.track (batch_of ended (Some (record { number = log.number; track = trimmed log.track })) bytes room)
 batch_back ended log bytes room =
-    ap (λ (t : Track). batch_of ended (record { number = log.number; logging = log.logging; track = t }) bytes room) (sym (own_back log.track))
-    ∙ batch-from-back log.track (length bytes) ended (record { number = log.number; logging = log.logging; track = trimmed log.track }) bytes room (refl, refl)
+    ap (λ (t : Track). batch_of ended (Some (record { number = log.number; track = t })) bytes room) (sym (own_back log.track))
+    ∙ batch-from-back log.track (length bytes) ended (record { number = log.number; track = trimmed log.track }) bytes room (refl, refl)
 
 -- what is gathered from columns of 64, with the count put back, is put back into the track
 gathered : (k : Track) (h : Playhead) (ss ds : List Float) (ms : List Bool) {g : Track} → g ≡ laid_over k (track_of h ss ds ms) → 64 ≡ length ss
@@ -142,17 +153,21 @@ gathered k h ss ds ms e l =
     ∙ ap (λ (xs : List Entry). record { count = k.count; entries = over xs k.entries; clock = h.clock; looping = h.looping })
     (ap (take max_entries) (take-length es) ∙ take_all max_entries es size)
 
--- the calls of a batch run in columns of 64, in which the whole track was laid out: what is gathered is what the batch leaves of it
-pub runs_whole : (ended : Bool) (log : Log) (bytes old new : List ℕ) {q g : Track} (h : Playhead) (ss ds : List Float) (ms : List Bool) (r : Ran) → q ≡ trimmed log.track
-    → RunsTo (batch_of ended (record { number = log.number; logging = log.logging; track = q }) bytes (length old)) r (record { number = r.turn.number; logging = log.logging; track = track_of h ss ds ms }) old new
-    → g ≡ laid_over log.track (track_of h ss ds ms) → 64 ≡ length ss
-    → (record { used = r.used; len = r.len; log = record { number = r.turn.number; logging = log.logging; track = record { count = log.track.count; entries = g.entries; clock = g.clock; looping = g.looping } } } ≡ batched_by (batch_of ended log bytes (length old)))
-    × (new ≡ lined (batch_of ended log bytes (length old)).text old)
-runs_whole ended log bytes old new {q} {g} h ss ds ms r laid runs eg size =
+-- columns in which all live entries were laid out hold the trimmed track
+pub seated : (k : Track) → length k.entries ≡ max_entries → {h : Playhead} {s₀ s d₀ d : List Float} {m₀ m : List Bool} → LaysOut k (take max_entries (live k)) h s₀ s d₀ d m₀ m
+    → {ss ds : List Float} → ss ≡ s → ds ≡ d → track_of h ss ds m ≡ trimmed k
+seated k l w es ed = rw (es, ed) (all_laid k l refl w.track)
+
+-- the calls of a batch run by a player of columns of 64, in which the whole track was laid out: what is gathered is what the batch leaves of it
+pub runs_whole : (ended : Bool) (log : Log) (bytes old new : List ℕ) {g : Track} (p q : Player) (r : Ran) → playing_in p ≡ trimmed log.track → 64 ≡ length p.spans.starts.now
+    → RunsTo (batch_of ended (Some (log_in log.number p)) bytes (length old)) r p q old new → g ≡ laid_over log.track (playing_in q)
+    → (record { used = r.used; len = r.len; log = Some (record { number = r.number; track = record { count = log.track.count; entries = g.entries; clock = g.clock; looping = g.looping } }) } ≡ batched_by (batch_of ended (Some log) bytes (length old)))
+    × (new ≡ lined (batch_of ended (Some log) bytes (length old)).text old)
+runs_whole ended log bytes old new {g} p q r laid size runs eg =
     let k = log.track in
-    let b = batch_of ended (record { number = log.number; logging = log.logging; track = trimmed k }) bytes (length old) in
-    let left : Log = record { number = r.turn.number; logging = log.logging; track = track_of h ss ds ms } in
-    let own : RunsTo b r left old new = subst (λ (t : Track). RunsTo (batch_of ended (record { number = log.number; logging = log.logging; track = t }) bytes (length old)) r left old new) laid runs in
-    let track : record { count = k.count; entries = g.entries; clock = g.clock; looping = g.looping } ≡ put_back k (track_of h ss ds ms) = gathered k h ss ds ms eg size in
+    let b = batch_of ended (Some (record { number = log.number; track = trimmed k })) bytes (length old) in
+    let own : RunsTo b r p q old new = rw laid at runs in
+    let long : 64 ≡ length q.spans.starts.now = rw own.columns.spans size in
+    let track : record { count = k.count; entries = g.entries; clock = g.clock; looping = g.looping } ≡ put_back k (playing_in q) = gathered k q.head q.spans.starts.now q.spans.durations.now q.marks.now eg long in
     rw (batch_back ended log bytes (length old), track, own.used, own.len)
-    (ap (λ (l : Log). record { used = b.used; len = length b.text; log = back_log k l }) own.log, own.text)
+    (ap (λ (l : Option Log). record { used = b.used; len = length b.text; log = back_in k l }) own.log, own.text)

@@ -1,5 +1,6 @@
 -- Laws of lines and calls.
 pub mod Writing
+pub mod Fronts
 pub mod Making
 pub mod InPlace
 pub mod Batches

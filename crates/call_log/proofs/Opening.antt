@@ -1,16 +1,20 @@
 -- The sheet of an input: when it is cut, and its number.
 use Prim.Native.Nat.{ℕ, ◌+◌, ◌<◌, ◌≤◌}
-use mathlib.Core.Path.{◌≡◌, refl}
+use mathlib.Core.Path.{◌≡◌, refl, sym, ap, ◌∙◌}
 use mathlib.Core.Bool.{Bool, true, false, cond, ◌||◌}
 use mathlib.Core.List.{List}
 use native.Mathlib.Omega.{arith}
 use borrow.Author.Tests.{lt-ltb, le-ltb, ltb-false, eq-eqb, ne_eqb}
 use lib.Dec.{ltb}
 use lib.ListN.{length, take, drop}
-use Rattle.std.specs.Prelude.{None, Some}
+use Rattle.std.specs.Prelude.{Option, None, Some}
+use Rattle.refusal.specs.declared.Refusal.{Refusal}
+use Rattle.refusal.specs.Refusal.{accepted, number}
+use Rattle.refusal.proofs.Numbers.{number-not}
 use Rattle.words.specs.Words.{word}
 use Rattle.sheet.specs.Build.{reading_of}
-use Rattle.script.proofs.Making.{or-false}
+use Rattle.std.proofs.lemmas.Bool.{or_parts}
+use Rattle.call_log.specs.declared.Log.{Log}
 use Rattle.call_log.specs.Lines.{Refused}
 use Rattle.call_log.specs.Logs.{is_cut, sheet_in, sheet_number, sheet_line, track_in}
 use Rattle.call_log.specs.Machine.{sheet_room, new_log, open_line, open_log}
@@ -24,8 +28,8 @@ pub record Whole (input : List ℕ) : Type 0 where
 pub uncut : (input : List ℕ) → is_cut input ≡ false → Whole input
 unfolding is_cut
 uncut input e =
-    let a = or-false _ _ e in
-    let b = or-false _ _ a.1 in
+    let a = or_parts _ _ e in
+    let b = or_parts _ _ a.1 in
     record { some = ltb-false _ _ a.0; few = ltb-false _ _ b.0; fits = ltb-false _ _ b.1 }
 
 -- the sheet's length is wanted
@@ -90,6 +94,9 @@ pub number-whole : (input : List ℕ) → is_cut input ≡ false → sheet_numbe
 unfolding sheet_number
 number-whole input e = rw e
 
+some_same : {x y : Log} → ◌≡◌ {A = Option Log} (Some x) (Some y) → x ≡ y
+some_same e = cc
+
 module _ (input : List ℕ) where
   pub open-refused : (sheet_number input ≡ 0 → ⊥) → (open_line input ≡ Refused (sheet_number input)) × (open_log input ≡ None)
   unfolding open_line open_log
@@ -98,3 +105,13 @@ module _ (input : List ℕ) where
   pub open-accepted : sheet_number input ≡ 0 → (open_line input ≡ sheet_line (track_in input)) × (open_log input ≡ Some (new_log (track_in input)))
   unfolding open_line open_log
   open-accepted h = rw (eq-eqb (sheet_number input) 0 h) (refl, refl)
+
+  -- the line, by the answer
+  pub line_accepted : (log : Log) → accepted ≡ sheet_number input → Some log ≡ open_log input → open_line input ≡ sheet_line log.track
+  line_accepted log n e =
+      let o = open-accepted (sym n) in
+      let l : log ≡ new_log (track_in input) = some_same (e ∙ o.1) in
+      o.0 ∙ ap (λ (g : Log). sheet_line g.track) (sym l)
+
+  pub line_refused : (r : Refusal) → number r ≡ sheet_number input → open_line input ≡ Refused (number r)
+  line_refused r n = (open-refused (λ z. number-not r (n ∙ z))).0 ∙ ap Refused (sym n)

@@ -9,11 +9,13 @@ use lib.Dec.{lit≤}
 use lib.Ieee.{Float}
 use lib.ListN.{length, take, get_or, set, length-append}
 use lib.Seq.{take-suc, set_split}
+use Rattle.std.specs.Prelude.{Option}
+use Rattle.core.specs.Option.{unwrap_or}
 use Rattle.float32.specs.Helpers.{to_bits}
 use Rattle.digits.specs.Digits.{decimal, hex_text, Put}
 use Rattle.digits.proofs.Length.{length_digits}
 use Rattle.digits.proofs.PutAt.{put_at_nil}
-use Rattle.digits.proofs.Room.{written-whole}
+use Rattle.digits.proofs.Room.{put_whole}
 use Rattle.digits.proofs.Claim.{claim}
 use Rattle.sheet_format.proofs.Stores.{length-put_at, put_at_then}
 use Rattle.call_log.specs.Lines.{Called, bits_field, with_field, with_fields, shown, Wrote}
@@ -38,10 +40,10 @@ pub wrote_byte : (b at : ℕ) (old : List ℕ) → at < length old → Wrote (b 
 wrote_byte b at old h = record { bytes = rw add-one (simp append_assoc (set_split old at b h)); ends = refl }
 
 -- digits that have room
-pub wrote_put : {text : List ℕ} {at : ℕ} {old new : List ℕ} {count : ℕ} → Put text at old new count → at + length text ≤ length old → Wrote text at old new (at + count)
-wrote_put {text} {at} {old} {new} {count} p h =
-    let w = written-whole text at old h in
-    record { bytes = p.bytes ∙ w.0; ends = ap (at +◌) (p.counted ∙ w.1) }
+pub wrote_put : {text : List ℕ} {at n : ℕ} {old new : List ℕ} {count : Option ℕ} → Put text at old new count → n ≡ unwrap_or count 0 → at + length text ≤ length old → Wrote text at old new (at + n)
+wrote_put {text} {at} {n} {old} {new} {count} p e h =
+    let w = put_whole text at old new count n h p e in
+    record { bytes = w.1; ends = ap (at +◌) w.0 }
 
 -- how long a number's text is: of a byte, and of a word
 pub byte_digits : (n : ℕ) → n < 256 → length (decimal n) ≤ 3
@@ -67,13 +69,13 @@ pub bits_length : (x : Float) → length (bits_field (to_bits x)) ≡ 8
 bits_length x = length_digits 16 8 (to_bits x)
 
 -- a space, and a float's bits
-pub bits_put : (x : Float) {at field bits count : ℕ} {old mid new : List ℕ} → at + 9 ≤ length old → Wrote (32 ∷ []) at old mid field → bits ≡ to_bits x → Put (hex_text 8 bits) field mid new count
-    → Wrote (32 ∷ bits_field (to_bits x)) at old new (field + count)
-bits_put x {at} {field} {bits} {count} {old} {mid} {new} h space e put =
+pub bits_put : (x : Float) {at field bits n : ℕ} {old mid new : List ℕ} {count : Option ℕ} → at + 9 ≤ length old → Wrote (32 ∷ []) at old mid field → bits ≡ to_bits x
+    → Put (hex_text 8 bits) field mid new count → n ≡ unwrap_or count 0 → Wrote (32 ∷ bits_field (to_bits x)) at old new (field + n)
+bits_put x {at} {field} {bits} {n} {old} {mid} {new} h space e put counted =
     let wide = bits_length x in
     let from = space.ends in
     let same = wrote_length space (omega arith) in
-    let digits = wrote_put (rw e at put) (omega arith) in
+    let digits = wrote_put (rw e at put) counted (omega arith) in
     let to = digits.ends in
     wrote_then space digits (omega arith)
 

@@ -2,55 +2,35 @@
 use Rattle.std.specs.Prelude.{ℕ, zero, suc, ◌+◌, ◌-◌, ◌≤◌, ◌≡◌, Bool, cond, ◌||◌, ◌&&◌, List, [], ◌∷◌, ◌++◌, eqb, ltb, leb, length, take, drop, Option, Some, None, Result}
 use Rattle.std.specs.Result.{result_ok}
 use Rattle.refusal.specs.declared.Refusal.{Refusal}
-use Rattle.refusal.specs.Refusal.{accepted, bad_call, number_if, number_in}
+use Rattle.refusal.specs.Refusal.{accepted, bad_call, number_in, held_or}
 use Rattle.digits.specs.Digits.{put_at}
-use Rattle.completions.specs.declared.Spans.{Spans}
-use Rattle.track.specs.declared.rows.Rows.{Rows}
 use Rattle.track.specs.declared.track.Track.{Track}
-use Rattle.track.specs.declared.track.Playhead.{Playhead}
-use Rattle.steps.specs.Times.{max_entries}
-use Rattle.track.specs.Tracks.{empty_track}
-use Rattle.track.specs.Columns.{track_of}
 use Rattle.track.specs.Calls.{track_silent}
-use Rattle.track.specs.Answers.{LentMut, LentRows, SameSlices, seen, lent_track, left_track}
-use Rattle.script.specs.declared.Made.{Made}
-use Rattle.script.specs.Scripts.{left_by, MadeBy}
+use Rattle.player.specs.declared.engine.Player.{Player}
+use Rattle.player.specs.Answered.{playing_in, SameColumns}
 use Rattle.words.specs.Words.{word}
 use Rattle.call_log.specs.declared.Log.{Log}
 use Rattle.call_log.specs.declared.Call.{Call}
-use Rattle.call_log.specs.declared.Turn.{Turn}
 use Rattle.call_log.specs.declared.Opened.{Opened}
-use Rattle.call_log.specs.declared.Logged.{Logged}
 use Rattle.call_log.specs.declared.Ran.{Ran}
 use Rattle.call_log.specs.declared.Batched.{Batched}
 use Rattle.call_log.specs.Lines.{Line, Refused, shown, shown_all, line_size}
-use Rattle.call_log.specs.Logs.{max_sheet, length_size, sheet_number, sheet_line, track_in, call_size, list_size, replies, outcome, outcome_at, call_line}
+use Rattle.call_log.specs.Logs.{max_sheet, length_size, sheet_number, sheet_line, track_in, call_size, list_size, outcome, outcome_at, call_line}
 
 -- ---- a call
-
--- row slices with room for all entries
-pub record Roomy (rows : Rows) : Type 0 where
-  pub kinds : length rows.kinds.now ≡ max_entries
-  pub amounts : length rows.amounts.now ≡ max_entries
-  pub places : length rows.places.now ≡ max_entries
-
--- what is lent to a call: the replies, a list, and row slices
-pub record Lends (rs l : List ℕ) (r : Rows) : Type 0 where
-  pub ones : rs ≡ replies
-  pub list : length l ≡ list_size
-  pub rows : Roomy r
 
 -- the call that these bytes make, whatever plays: one that is none is refused
 abbrev pub CallAt : List ℕ → Option Call → Type 0
 CallAt rest (Some call) = (k : Track) → outcome_at k rest ≡ outcome k call.byte call.x
 CallAt rest None = (k : Track) → outcome_at k rest ≡ track_silent bad_call k
 
--- the call at the front of the script, made in place, answers r; the row slices are the same, with room as before
-abbrev pub MadeAt : Playhead → Spans → LentMut Bool → List ℕ → Result Made Refusal → LentMut ℕ → LentRows → Type 0
-MadeAt head spans marks rest r list rows =
-    SameSlices rows.entry.now rows.exit.now
-    × MadeBy (outcome_at (lent_track head spans (seen marks)) rest) (number_in r) (left_by head r).listed (left_track head (left_by head r).clock spans marks)
-    list.entry.now list.exit.now rows.entry.now.kinds.now rows.exit.now.kinds.now rows.entry.now.amounts.now rows.exit.now.amounts.now rows.entry.now.places.now rows.exit.now.places.now
+-- the player p made the call at the front of the script: it answered x, left q, and put what it listed at the front of the list
+pub record Makes (p : Player) (rest : List ℕ) (x : Result ℕ Refusal) (q : Player) (list : List ℕ) : Type 0 where
+  pub columns : SameColumns p q
+  pub refusal : number_in x ≡ (outcome_at (playing_in p) rest).refusal
+  pub few : held_or 0 x ≤ list_size
+  pub listed : take (held_or 0 x) list ≡ (outcome_at (playing_in p) rest).listed
+  pub track : playing_in q ≡ (outcome_at (playing_in p) rest).track
 
 -- ---- `open`
 
@@ -100,21 +80,21 @@ next_log (Some log) rest = Some (cond (eqb (length rest) 0) log (record { number
 abbrev pub next_bytes : Option Log → List ℕ → List ℕ
 next_bytes log rest = shown_all (next_lines log rest)
 
--- a log whose track plays in the lent columns
-abbrev pub lent_log : Turn → Spans → LentMut Bool → Log
-lent_log turn spans marks = record { number = turn.number; track = lent_track turn.head spans (seen marks) }
+-- the log of so many lines, of which the player plays the track
+abbrev pub log_in : ℕ → Player → Log
+log_in number p = record { number = number; track = playing_in p }
 
--- and the log that is left in them
-abbrev pub left_log : Turn → Spans → LentMut Bool → Log
-left_log turn spans marks =
-    record { number = turn.number; track = track_of turn.head spans.starts.now spans.durations.now marks.exit.now }
+-- the bytes of the line with this number, of the call at the front of the script
+abbrev pub line_bytes : ℕ → Player → List ℕ → List ℕ
+line_bytes number p rest = shown (call_line number (outcome_at (playing_in p) rest))
 
--- `next`: its answer, the log that is left, and the lent array before and after
-pub record LogsTo (before : Log) (rest : List ℕ) (r : Logged) (left : Log) (at : ℕ) (old new : List ℕ) : Type 0 where
-  pub len : r.len ≡ length (next_bytes (Some before) rest)
-  pub few : r.len ≤ line_size
-  pub log : Some left ≡ next_log (Some before) rest
-  pub text : new ≡ put_at (next_bytes (Some before) rest) at old
+-- `next`: the player p made this call and left q, and its line of n bytes was put into the array old at an offset, which left new
+pub record Logs (number : ℕ) (p : Player) (rest : List ℕ) (n : ℕ) (q : Player) (at : ℕ) (old new : List ℕ) : Type 0 where
+  pub columns : SameColumns p q
+  pub track : playing_in q ≡ (outcome_at (playing_in p) rest).track
+  pub len : n ≡ length (line_bytes number p rest)
+  pub few : n ≤ line_size
+  pub text : new ≡ put_at (line_bytes number p rest) at old
 
 -- what is left in the lent array: the text at its front
 abbrev pub lined : List ℕ → List ℕ → List ℕ
@@ -160,9 +140,10 @@ batch_of ended log bytes room = batch_from (length bytes) ended log bytes room
 abbrev pub batched_by : Calls → Batched
 batched_by c = record { used = c.used; len = length c.text; log = c.log }
 
--- `run`: its answer, the log that is left, and the lent array before and after
-pub record RunsTo (c : Calls) (r : Ran) (left : Log) (old new : List ℕ) : Type 0 where
+-- `run`: its answer, the players before and after, and the lent array before and after
+pub record RunsTo (c : Calls) (r : Ran) (p q : Player) (old new : List ℕ) : Type 0 where
   pub used : r.used ≡ c.used
   pub len : r.len ≡ length c.text
-  pub log : Some left ≡ c.log
+  pub log : Some (log_in r.number q) ≡ c.log
   pub text : new ≡ lined c.text old
+  pub columns : SameColumns p q

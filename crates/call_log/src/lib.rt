@@ -4,22 +4,21 @@
 mod fields;
 mod lines;
 
-ghost use Rattle.std.specs.Prelude.{◌≡◌, ◌+◌, ◌<◌, ◌≤◌, length, true, false, Some, None, IfNone, IfSome};
+ghost use Rattle.std.specs.Prelude.{◌≡◌, ◌+◌, ◌≤◌, length, true, false, Some, None, IfNone, IfSome};
 ghost use Rattle.std.specs.Result.{result_ok};
 ghost use Rattle.refusal.specs.Refusal.{number_in};
-ghost use Rattle.track.specs.Answers.{SameSlices};
 ghost use Rattle.call_log.specs.Lines.{shown, line_size};
 ghost use Rattle.call_log.specs.Logs.{is_cut, sheet_in, sheet_number};
-ghost use Rattle.call_log.specs.Machine.{Lends, Roomy, CallAt, MadeAt, lent_log, left_log, LogsTo, RunsTo, sheet_room, open_line, open_log, Opens, lined, least_bytes, batch_of, batched_by};
+ghost use Rattle.call_log.specs.Machine.{CallAt, Makes, log_in, Logs, RunsTo, sheet_room, open_line, open_log, Opens, lined, least_bytes, batch_of, batched_by};
 
-use completions::{MOST_ENTRIES, Spans};
+use completions::MOST_ENTRIES;
 pub use fields::LINE;
+use player::engine::Player;
 use refusal::Refusal;
-use script::Made;
 pub use sheet_rules::MAX_SHEET;
 use steps::MAX_ENTRIES;
 use track::rows::Rows;
-use track::track::{Columns, Playhead, Track};
+use track::track::{Columns, Track};
 use words::{u16_at, u32_at};
 
 // How many bytes a call has.
@@ -57,26 +56,21 @@ pub struct Batched {
     pub log: Option<Log>,
 }
 
-// What changes from line to line: the number of the last one, and the playhead.
-#[derive(Clone, Copy)]
-struct Turn {
-    number: usize,
-    head: Playhead,
-}
-
-// The answer of run: where the last line left the log, how many bytes it used, and how long the lines are.
+// The answer of run: the number of the last line, how many bytes it used, and how long the lines are.
 #[derive(Clone, Copy)]
 struct Ran {
-    turn: Turn,
+    number: usize,
     used: usize,
     len: usize,
 }
 
-// The answer of next: how long the line is, and where it leaves the log.
-#[derive(Clone, Copy)]
-struct Logged {
-    len: usize,
-    turn: Turn,
+// What is lent to each call: the list, and the row slices, which no line shows.
+#[derive(Drop)]
+struct Lent {
+    list: [u8; LIST],
+    kinds: [u8; MAX_ENTRIES],
+    amounts: [f32; MAX_ENTRIES],
+    places: [f32; MAX_ENTRIES],
 }
 
 // How many bytes the sheet has after the two that say so. None where these are not there, or the sheet is too long.
@@ -144,22 +138,14 @@ pub fn batch(log: Option<Log>, bytes: &[u8], ended: bool, out: &mut [u8]) -> Bat
             log: None,
         };
     };
-    let Columns {
-        head,
-        starts,
-        durations,
-        mut marks,
-    } = Columns::of(log.track);
-    let spans = Spans {
-        starts: &starts,
-        durations: &durations,
+    let columns = &mut Columns::of(log.track);
+    let mut player = Player {
+        head: columns.head,
+        spans: columns.held.spans(),
+        marks: &mut columns.marks,
     };
-    let turn = Turn {
-        number: log.number,
-        head,
-    };
-    let ran = run(turn, spans, &mut marks, bytes, ended, out);
-    let gathered = log.track.gather(ran.turn.head, spans, &marks);
+    let ran = run(log.number, &mut player, bytes, ended, out);
+    let gathered = log.track.gather(player.head, player.spans, player.marks);
     let track = Track {
         count: log.track.count,
         ..gathered
@@ -168,7 +154,7 @@ pub fn batch(log: Option<Log>, bytes: &[u8], ended: bool, out: &mut [u8]) -> Bat
         used: ran.used,
         len: ran.len,
         log: Some(Log {
-            number: ran.turn.number,
+            number: ran.number,
             track,
         }),
     }
@@ -191,41 +177,33 @@ fn used_up(bytes: &[u8], ended: bool, room: usize) -> usize
 
 // The calls of a batch, in place.
 fn run(
-    mut turn: Turn,
-    spans: Spans<'_>,
-    marks: &mut [bool],
+    mut number: usize,
+    player: &mut Player<'_, '_>,
     bytes: &[u8],
     ended: bool,
     out: &mut [u8],
 ) -> Ran
-    ensures { RunsTo (batch_of ended (Some (lent_log turn spans.entry marks)) bytes.now (length out.old)) result (left_log result.turn spans.entry marks) out.old out.new }
+    ensures { RunsTo (batch_of ended (Some (log_in number player.old)) bytes.now (length out.old)) result player.old player.new out.old out.new }
 {
-    let replies = [1u8; MAX_ENTRIES];
-    let mut list = [0u8; LIST];
-    let mut kinds = [0u8; MAX_ENTRIES];
-    let mut amounts = [0.0f32; MAX_ENTRIES];
-    let mut places = [0.0f32; MAX_ENTRIES];
-    let mut rows = Rows {
-        kinds: &mut kinds,
-        amounts: &mut amounts,
-        places: &mut places,
+    let mut lent = Lent {
+        list: [0; LIST],
+        kinds: [0; MAX_ENTRIES],
+        amounts: [0.0; MAX_ENTRIES],
+        places: [0.0; MAX_ENTRIES],
     };
     let least = least_bytes(ended);
     let mut used = 0;
     let mut len = 0;
+    // The last of them may be cut, and how long a line is shows when it is written.
     for call in bytes.chunks(CALL) {
-        // The last one may be cut.
         if call.len() < least || out.len() - len < LINE {
             break;
         }
-        let logged = next(
-            turn, spans, marks, &replies, &mut list, &mut rows, call, out, len,
-        );
-        turn = logged.turn;
-        len += logged.len;
+        number = number.saturating_add(1);
+        len += next(number, player, &mut lent, call, out, len);
         used += call.len();
     }
-    Ran { turn, used, len }
+    Ran { number, used, len }
 }
 
 // How many bytes have to be there for a call.
@@ -235,58 +213,42 @@ fn least_bytes(ended: bool) -> usize
     if ended { 1 } else { CALL }
 }
 
-// Makes the call at the front of what is left of the script, and writes its line from an offset on. Fewer bytes than a call has are no
-// call.
+// Makes the call at the front of the script, and writes its line, with its number, from an offset on. Answers how long the line is.
 fn next(
-    turn: Turn,
-    spans: Spans<'_>,
-    marks: &mut [bool],
-    replies: &[u8],
-    list: &mut [u8],
-    rows: &mut Rows<'_>,
+    number: usize,
+    player: &mut Player<'_, '_>,
+    lent: &mut Lent,
     rest: &[u8],
     out: &mut [u8],
     at: usize,
-) -> Logged
-    requires { Lends replies.now list.old rows.old × (0 < length rest.now) × (at + line_size ≤ length out.old) }
-    ensures logged { LogsTo (lent_log turn spans.entry marks) rest.now result (left_log result.turn spans.entry marks) at out.old out.new }
-    ensures rows_after { SameSlices rows.old rows.new × Roomy rows.new }
+) -> usize
+    requires { at + line_size ≤ length out.old }
+    ensures { Logs number player.old rest.now result player.new at out.old out.new }
 {
-    let head = turn.head;
-    let made = make_at(head, rest, spans, marks, replies, list, rows);
+    let made = make_at(player, rest, lent);
     let refusal = refusal::number_in(&made);
-    let nothing = Made {
-        listed: 0,
-        clock: head.clock,
-    };
-    let left = made.unwrap_or(nothing);
-    let number = turn.number.saturating_add(1);
-    let end = lines::called(out, at, number, left.clock, refusal, &list[..left.listed]);
-    let turn = Turn {
-        number,
-        head: head.with_clock(left.clock),
-    };
-    Logged {
-        len: end - at,
-        turn,
-    }
+    let listed = &lent.list[..made.unwrap_or(0)];
+    lines::called(out, at, number, player.head.clock, refusal, listed) - at
 }
 
-// Makes the call at the front of the script. Fewer bytes than a call has are refused.
-fn make_at(
-    head: Playhead,
-    rest: &[u8],
-    spans: Spans<'_>,
-    marks: &mut [bool],
-    replies: &[u8],
-    list: &mut [u8],
-    rows: &mut Rows<'_>,
-) -> Result<Made, Refusal>
-    requires { Lends replies.now list.old rows.old }
-    ensures { MadeAt head spans.entry marks rest.now result list rows }
+// Makes the call at the front of the script. Fewer bytes than a call has are refused. Leaves always reply 1.
+fn make_at(player: &mut Player<'_, '_>, rest: &[u8], lent: &mut Lent) -> Result<usize, Refusal>
+    ensures { Makes player.old rest.now result player.new lent.new.list }
 {
     let call = call_at(rest).ok_or(Refusal::BadCall)?;
-    script::make(head, call.byte, call.x, spans, marks, replies, list, rows)
+    let mut rows = Rows {
+        kinds: &mut lent.kinds,
+        amounts: &mut lent.amounts,
+        places: &mut lent.places,
+    };
+    script::make(
+        player,
+        call.byte,
+        call.x,
+        &[1; MAX_ENTRIES],
+        &mut lent.list,
+        &mut rows,
+    )
 }
 
 // The call at the front of the script, if its bytes are all there.

@@ -15,8 +15,7 @@ use Rattle.refusal.specs.Refusal.{accepted, bad_caption, number_in}
 use Rattle.label.specs.Label.{same_text}
 use Rattle.words.specs.declared.Pair.{Pair}
 use Rattle.words.specs.Pairs.{pair_size, offset_in, length_in, pair_in, part_by, part_of, pairs_in_turn}
-use Rattle.std.specs.Prelude.{is_some, Option, Some, None, Result, Ok, Err}
-use Rattle.refusal.specs.declared.Refusal.{Refusal}
+use Rattle.std.specs.Prelude.{is_some, Option, Some, None, Ok, Err}
 use Rattle.refusal.specs.declared.Refusal.TheVariants.{BadCaption}
 use Rattle.caption.specs.Captions.{codes_in, pairs_in, code_size, text_at, any_length, list_number, no_match, matched, match_in, earlier, first_match, looked_up}
 

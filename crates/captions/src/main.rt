@@ -6,6 +6,7 @@ use caption::finder::Caption;
 use caption::{caption, check_list, find_caption};
 use escape::escape;
 use refusal::{ACCEPTED, Refusal};
+use sheet_rules::MAX_SHEET;
 use std::io::{Print, Stdout};
 use std::{fs, io};
 use streams::{front, read_full};
@@ -19,7 +20,7 @@ const LIST_FILE: &str = "/dev/fd/9";
 const LIST: usize = 131_071;
 
 // One byte more than the longest sheet.
-const SHEET: usize = 2_573;
+const SHEET: usize = MAX_SHEET + 1;
 
 // How much of a text is written at once, and how many bytes that is of: a byte takes four places at most.
 const PIECE: usize = 65_536;

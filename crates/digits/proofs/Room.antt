@@ -5,7 +5,7 @@ use mathlib.Core.List.{List}
 use borrow.Author.Tests.{le-leb}
 use lib.ListN.{length}
 use Rattle.std.specs.Prelude.{Option, Some}
-use Rattle.core.specs.Option.{unwrap_or}
+use Rattle.std.specs.Option.{unwrap_or}
 use Rattle.digits.specs.Digits.{put_at, written, written_count, Put}
 
 -- it is written whole

@@ -73,7 +73,7 @@ fn grid(cols: u32, rows: u32) -> StaggerPattern {
 fn staggered(stdout: Stdout, name: &str, cols: u32, rows: u32) {
     let built = AnimationGroup::stagger(&[1.0, 1.0, 1.0], grid(cols, rows));
     line(stdout, name, number_if(built.refusal));
-    sent(stdout, built.group.timeline());
+    sent(stdout, built.panel.timeline());
 }
 
 // A line for each of three entries: the byte of the row that a seek to 1.5 s sends, 0 where there is no entry.

@@ -6,7 +6,7 @@ use mathlib.Core.List.{List, [], ◌∷◌, ◌++◌, append_assoc, append-nil}
 use native.Mathlib.Numerals.{add-one}
 use native.Mathlib.Omega.{arith}
 use Rattle.std.specs.Prelude.{Option}
-use Rattle.core.specs.Option.{unwrap_or}
+use Rattle.std.specs.Option.{unwrap_or}
 use lib.ListN.{length, take, get_or, set, length-set, length-append}
 use lib.Seq.{take-suc, take_all, sets-eq}
 use Rattle.digits.specs.Digits.{hex_text, put_at, Put}

@@ -9,7 +9,7 @@ use lib.Dec.{ltb, lit≤}
 use lib.ListN.{length, take, length-append, length-take}
 use lib.Ieee.{Float}
 use Rattle.std.specs.Prelude.{Option, Ok, Err}
-use Rattle.core.specs.Option.{unwrap_or}
+use Rattle.std.specs.Option.{unwrap_or}
 use Rattle.refusal.specs.declared.Refusal.{Refusal}
 use Rattle.refusal.specs.Refusal.{accepted, timeline_full, number}
 use Rattle.digits.specs.Digits.{decimal, put_at, Put}

@@ -18,7 +18,7 @@ use Rattle.float32.proofs.Order.{first_zero, zero_times, le-no_nan, le_trans, le
 use Rattle.float32.proofs.MaxMin.{min-is}
 use Rattle.float32.proofs.Rest.{mod_scaled}
 use Rattle.float32.proofs.Nonneg.{zero_size, round-zero_value}
-use Rattle.steps.proofs.Tests.{and-true}
+use Rattle.std.proofs.lemmas.Bool.{and_parts}
 
 -- ---- what `eq` says of two values
 -- the other way round
@@ -44,7 +44,7 @@ module _ (P : Float → Float → Type 0) (same : (x : Float) → P x x)
   eq-by (fin s m e) nan h = absurd (false≢true h)
   eq-by (fin s m e) (inf t) h = absurd (false≢true h)
   eq-by (fin s m e) (fin t n d) h =
-      let k = and-true (eqb (m * up e * down d) (n * up d * down e)) (beq s t || eqb (m * up e * down d) 0) h in
+      let k = and_parts (eqb (m * up e * down d) (n * up d * down e)) (beq s t || eqb (m * up e * down d) 0) h in
       go s t (eqb-true (m * up e * down d) (n * up d * down e) k.0) k.1 h
     where
       either : (s t : Bool) → m * up e * down d ≡ n * up d * down e → eqb (m * up e * down d) 0 ≡ true → eq (fin s m e) (fin t n d) ≡ true → P (fin s m e) (fin t n d)

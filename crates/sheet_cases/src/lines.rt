@@ -105,7 +105,7 @@ fn entry(sink: &mut Sink, e: &Entry, label: &Label) {
 
 // Writes the description where there is room for `size` bytes.
 fn written(sink: &mut Sink, sheet: &[u8], d: Description, size: usize)
-    requires { size ≤ 4096 }
+    requires { size ≤ SHEET }
 {
     let mut room = [OLD; SHEET];
     let answer = sheet_format::write(d, &mut room[..size]);

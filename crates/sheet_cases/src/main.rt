@@ -8,13 +8,13 @@
 mod lines;
 mod spoil;
 
-use case_io::input::{Part, each_record};
+use case_io::input::each_record;
 use lines::SHEET;
 
 fn main(rt: HostRuntime) {
     let mut room = [0u8; SHEET];
     each_record(&rt, b"sheet", &mut room, |sink, sheet| match sheet {
-        Part::Whole(sheet) => lines::sheet(sink, sheet),
-        Part::Cut(_) => sink.bytes(b"cut\n"),
+        Ok(sheet) => lines::sheet(sink, sheet),
+        Err(_) => sink.bytes(b"cut\n"),
     });
 }

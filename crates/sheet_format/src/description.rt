@@ -15,7 +15,7 @@ use words::u32_at;
 
 // An entry: the bits of its duration, where it is placed, what it is called.
 // No `==` is derived: it would compare the bytes past the label's length, too.
-#[derive(Clone, Copy)]
+#[derive(Clone, Copy, Debug)]
 pub struct Item {
     pub duration: u32,
     pub at: Placement,
@@ -23,7 +23,7 @@ pub struct Item {
 }
 
 impl Item {
-    // What stands in a slot that describes no entry.
+    // What stands in a slot that describes no entry. Not a `Default`: no value is that of an entry that nobody gave.
     pub(crate) fn blank() -> Item
         ensures { result ≡ blank_item }
     {
@@ -35,8 +35,8 @@ impl Item {
     }
 }
 
-// A panel. Items past the count are no part of it, nor are bytes past a label's length. Paper 01 has fixed
-// arrays in place of heap types.
+// A panel. Items past the count are no part of it, nor are bytes past a label's length. An array and a count: in paper 01 `Vec`
+// becomes a fixed array, and a description is Copy, which an `ArrayVec` is not.
 #[derive(Clone, Copy)]
 pub struct Description {
     pub count: usize,

@@ -45,6 +45,7 @@ impl From<TimelineState> for PlaybackState {
 }
 
 // The duration where it is finite.
+#[tactic(auto, unfolding(crate::specs::Introspections::known_duration))]
 fn known_duration(secs: f32) -> Option<f32>
     ensures { result ≡ known_duration secs }
 {

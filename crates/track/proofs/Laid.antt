@@ -10,7 +10,8 @@ use lib.Ieee.{Float, nan}
 use Rattle.steps.specs.declared.Entry.{Entry}
 use Rattle.steps.specs.Slices.{over}
 use Rattle.steps.specs.Times.{max_entries, base_of}
-use Rattle.steps.proofs.Lists.{front, front-more, front-all, map_at, part_at}
+use Rattle.std.proofs.lemmas.List.{get_or-map}
+use Rattle.steps.proofs.Lists.{front, front-more, front-all, part_at}
 use Rattle.completions.specs.Columns.{most_entries}
 use Rattle.clock.specs.declared.Clock.{Clock}
 use Rattle.track.specs.declared.track.Track.{Track}
@@ -37,7 +38,7 @@ module _ {A : Type 0} (f : Entry → A) (es : List Entry) where
   -- a turn stores the part of the next entry
   pub column-more : (i : ℕ) (old out : List A) (e : Entry) (none : A) → i < length es → e ≡ get_or es i no_entry → Column f es i old out → Column f es (i + 1) old (set out i (f e))
   column-more i old out e none h p c =
-      let here : f e ≡ get_or (map f es) i none = ap f p ∙ sym (map_at f es i no_entry none h) in
+      let here : f e ≡ get_or (map f es) i none = ap f p ∙ sym (get_or-map f es i no_entry none h) in
       record {
         room = c.room;
         same = length-set out i (f e) ∙ c.same;

@@ -8,7 +8,7 @@ use borrow.Author.Tests.{not-true, not-false, ltb-false, leb-true, leb-false, lt
 use lib.Dec.{ltb}
 use lib.ListN.{length, take}
 use lib.Ieee.{Float, eq}
-use Rattle.std.proofs.lemmas.Bool.{or_parts}
+use Rattle.std.proofs.lemmas.Bool.{or_parts, and_parts}
 use Rattle.float32.specs.Helpers.{zero_f, min_f}
 use Rattle.refusal.specs.Refusal.{accepted, list_too_short}
 use Rattle.tween.specs.LoopMode.{is_once}
@@ -17,7 +17,6 @@ use Rattle.steps.specs.declared.Rule.TheVariants.{Keep, Clear, Sync}
 use Rattle.steps.specs.Rows.{ruled}
 use Rattle.steps.specs.Slices.{over}
 use Rattle.steps.specs.Times.{run_of, local_time}
-use Rattle.steps.proofs.Tests.{and-true}
 use Rattle.completions.specs.Completions.{completions_between}
 use Rattle.completions.specs.Answers.{room_for, Listed}
 use Rattle.std.specs.Prelude.{Some, None}
@@ -118,13 +117,13 @@ module _ (t : Track) (dt : Float) (rs : List ℕ) where
 
     pub plays : advances t.clock base ≡ true → {a : Advance} → playing t dt rs ≡ a → updated t dt rs ≡ advanced_to t a
     unfolding updated advances
-    plays h ea = rw ((and-true (is_playing t.clock.state) (not (eq base zero_f)) h).0, ea)
+    plays h ea = rw ((and_parts (is_playing t.clock.state) (not (eq base zero_f)) h).0, ea)
 
     module _ {next : Float} {to : Reach} (h : advances t.clock base ≡ true) (en : next ≡ next_elapsed t.clock dt) (et : to ≡ reach_of t.looping base next) where
       -- the base is not 0
       e : eq base zero_f ≡ false
       unfolding advances
-      e = not-true (eq base zero_f) (and-true (is_playing t.clock.state) (not (eq base zero_f)) h).1
+      e = not-true (eq base zero_f) (and_parts (is_playing t.clock.state) (not (eq base zero_f)) h).1
 
       -- Once ticks
       pub ticks-on : is_once t.looping ≡ true → playing t dt rs ≡ record { steps = ticks (min_f t.clock.elapsed base) to.elapsed (live t) rs; listed = newly_done 0 (live t) (ticks (min_f t.clock.elapsed base) to.elapsed (live t) rs); reach = to }

@@ -4,12 +4,11 @@ use denote.MutBor.{MutBor, as_bor}
 use Rattle.std.specs.Borrow.{Bor}
 use Rattle.std.specs.Prelude.{ℕ, min, ◌≡◌, Bool, true, false, not, cond, List, map, length, take, replicate, Float, Result, Ok, Err}
 use Rattle.steps.specs.declared.Entry.{Entry}
-use Rattle.steps.specs.declared.Row.{Row}
 use Rattle.float32.specs.Helpers.{zero_f}
 use Rattle.steps.specs.Slices.{over}
 use Rattle.steps.specs.Times.{max_entries}
 use Rattle.refusal.specs.declared.Refusal.{Refusal}
-use Rattle.refusal.specs.Refusal.{accepted, number_in, held_or}
+use Rattle.refusal.specs.Refusal.{accepted}
 use Rattle.completions.specs.declared.Spans.{Spans}
 use Rattle.clock.specs.declared.Clock.{Clock}
 use Rattle.clock.specs.Clocks.{is_playing, is_completed, fires}
@@ -19,7 +18,7 @@ use Rattle.track.specs.declared.track.Playhead.{Playhead}
 use Rattle.track.specs.declared.track.Columns.{Columns}
 use Rattle.track.specs.Tracks.{live, with_only, Sent}
 use Rattle.track.specs.Columns.{track_of, with_clock_at}
-use Rattle.track.specs.Calls.{Room, room_of, TrackCall, Update, Preview, TrackOut, track_step}
+use Rattle.track.specs.Calls.{Room, room_of, TrackOut}
 
 -- a slice lent to be read, as a contract has it: `s.entry.now` is what it held when it was lent, `s.exit.now` what it holds after the call
 abbrev pub Lent : Type 0 → Type 0

@@ -1,64 +1,56 @@
--- Call by call, in place. What is still to come is the batch of the rest; the measure is the bytes that are left.
-use Prim.Native.Nat.{◌+◌, ◌-◌, ◌≤◌, ◌<◌}
-use mathlib.Core.Path.{refl, ap}
+-- Call by call, in place: what is still to come is the batch of the chunks that are left.
+use Prim.Native.Nat.{◌+◌, ◌-◌, ◌≤◌, ◌<◌, min}
+use mathlib.Core.Path.{◌≡◌, refl, ap, ◌∙◌}
+use mathlib.Core.Bool.{false}
 use native.Mathlib.Omega.{arith}
-use borrow.Author.Tests.{leb-false}
-use lib.ListN.{length, drop, length-take, length-drop}
-use Rattle.player.proofs.Checks.{same_slices}
+use lib.ListN.{length, length-append}
+use Rattle.std.proofs.Common.{rules}
+use Rattle.std.specs.Slice.Iter.{chunks_rest}
 use Rattle.call_log.specs.Lines.{line_size}
 use Rattle.call_log.specs.Logs.{call_size}
-use Rattle.call_log.specs.Machine.{least_bytes}
-use Rattle.call_log.proofs.Batches.{part-rest, is-next, no_bytes, no_room, log_in, none_yet, then_slices, one_more, no_more}
+use Rattle.call_log.specs.Machine.{counted, least_bytes, is_next, log_in}
+use Rattle.call_log.proofs.Making.{counts}
+use Rattle.call_log.proofs.Batches.{no_bytes, none_fits, some_bytes, least_few, then_columns, one_more, no_more}
+use Rattle.call_log.proofs.run.Goals.{then-call-least-via-then-call-least, then-call-least-via-else-call-least+then-out-len-lt-LINE}
 use Rattle.call_log.proofs.run.Goals as goal
 
-pub loop-used-init : goal.loop-used-init
-loop-used-init c =
+pub loop-call-preserved : goal.loop-call-preserved
+loop-call-preserved c =
     let args = c.args in
-    record { used = omega arith; len = omega arith; so_far = none_yet args.ended (log_in args.turn args.logging args.spans args.marks.now) args.bytes.now args.out.now; slices = same_slices _; roomy = record { kinds = refl; amounts = refl; places = refl } }
-
-pub loop-used-preserved : goal.loop-used-preserved
-loop-used-preserved c =
-    let args = c.args in
-    let loop = c.loop-used in
+    let loop = c.loop-call in
     let inv = loop.invariant in
-    let next = c.next-logged in
-    let rest = drop loop.used args.bytes.now in
-    let size = length-drop loop.used args.bytes.now in
-    let taken = length-take call_size rest in
-    let behind = c.behind-used.ensures in
-    let logged = rw (part-rest loop.used args.bytes.now) at next.ensures.logged in
-    let few = logged.few in
-    let left : line_size ≤ length loop.out - loop.len = c.if-out-len-ge-LINE.true in
+    let steps = c.in-Some.ensures.steps in
+    let rest = chunks_rest loop.call-iterator in
+    let size : length c.in-Some.call.now ≡ min call_size (length rest) = rw inv.size at steps.1.1 in
+    let there : least_bytes args.ended ≤ length rest = omega (arith, c.least_bytes-least.ensures, c.if-call-least.false) in
     let same = loop.auto.out in
-    let most : loop.len + next.result.len ≤ length args.out.now = omega (arith, left, few, same) in
-    let there : least_bytes args.ended ≤ length rest = omega (arith, c.least_bytes-least.ensures, c.loop-used-test.true, size) in
-    let more =
-    one_more args.ended (log_in args.turn args.logging args.spans args.marks.now) args.bytes.now args.out.now loop.out _ (log_in loop.turn args.logging args.spans loop.marks) loop.used loop.len c.behind-used.result (loop.len + next.result.len) inv.so_far
-    (is-next args.ended rest (length args.out.now - loop.len) there (omega (arith, left, same))) logged.text (ap (loop.len +◌) logged.len) most behind in
+    let room : line_size ≤ length args.out.now - loop.len = omega (arith, c.if-out-len-lt-LINE.false) in
+    let few : loop.len + c.next-len.result ≤ length args.out.now = omega (arith, c.next-len.ensures.few) in
     record {
-      used = omega (arith, behind, taken, size, inv.used);
-      len = most;
-      so_far = rw logged.log more;
-      slices = then_slices inv.slices next.ensures.rows_after.0;
-      roomy = next.ensures.rows_after.1;
+      size = steps.0 ∙ inv.size;
+      used = omega (arith, inv.used, ap length steps.1.0, length-append c.in-Some.call.now (chunks_rest c.next.new.self));
+      number = omega (arith, c.saturating_add-number.ensures);
+      len = few;
+      so_far = one_more _ _ _ _ _ _ _ _ _ inv.so_far _ _ _ _ _ _ _ refl (counts loop.number inv.number c.saturating_add-number.ensures) steps.1.0 size there room c.next-len.ensures few;
+      columns = then_columns inv.columns c.next-len.ensures.columns;
     }
 
-pub returns-else-out-len-ge-LINE : goal.returns-else-out-len-ge-LINE
-returns-else-out-len-ge-LINE c =
-    let args = c.args in
-    let loop = c.loop-used in
-    let least = c.least_bytes-least.ensures in
-    let size = length-drop loop.used args.bytes.now in
-    let same = loop.auto.out in
-    let room : length args.out.now - loop.len < line_size = omega (arith, leb-false) in
-    no_more args.ended (log_in args.turn args.logging args.spans args.marks.now) args.bytes.now args.out.now loop.out (log_in loop.turn args.logging args.spans loop.marks) loop.used loop.len _ refl refl loop.invariant.so_far
-    (no_room args.ended (drop loop.used args.bytes.now) (length args.out.now - loop.len) (omega arith) (omega arith))
+pub returns-in-None : goal.returns-in-None
+returns-in-None c =
+    let inv = c.loop-call.invariant in
+    let over = no_bytes c.args.ended (chunks_rest c.loop-call.call-iterator) (length c.args.out.now - c.loop-call.len) (omega (arith, some_bytes c.args.ended, c.in-None.ensures.steps.1.0)) in
+    no_more _ _ _ _ _ _ _ _ _ inv.so_far _ _ _ refl over inv.columns
 
-pub returns-after-loop-used : goal.returns-after-loop-used
-returns-after-loop-used c =
-    let args = c.args in
-    let loop = c.loop-used in
-    let least = c.least_bytes-least.ensures in
-    let size = length-drop loop.used args.bytes.now in
-    no_more args.ended (log_in args.turn args.logging args.spans args.marks.now) args.bytes.now args.out.now loop.out (log_in loop.turn args.logging args.spans loop.marks) loop.used loop.len _ refl refl loop.invariant.so_far
-    (no_bytes args.ended (drop loop.used args.bytes.now) (length args.out.now - loop.len) (omega arith))
+pub returns-then-call-least : goal.returns-then-call-least
+returns-then-call-least c =
+    let loop = c.loop-call in
+    let inv = loop.invariant in
+    let steps = c.in-Some.ensures.steps in
+    let rest = chunks_rest loop.call-iterator in
+    let size : length c.in-Some.call.now ≡ min call_size (length rest) = rw inv.size at steps.1.1 in
+    let over : is_next c.args.ended rest (length c.args.out.now - loop.len) ≡ false =
+    elim c.then-call-least.branch [
+      | then-call-least-via-then-call-least w ↦ no_bytes c.args.ended rest (length c.args.out.now - loop.len) (omega (arith, w.if-call-least.true, c.least_bytes-least.ensures, least_few c.args.ended))
+      | then-call-least-via-else-call-least+then-out-len-lt-LINE w ↦ none_fits c.args.ended rest (length c.args.out.now - loop.len) (omega (arith, w.if-out-len-lt-LINE.true, loop.auto.out))
+    ] in
+    no_more _ _ _ _ _ _ _ _ _ inv.so_far _ _ _ refl over inv.columns

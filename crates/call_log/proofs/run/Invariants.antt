@@ -1,21 +1,21 @@
--- Call by call, in place. What is still to come is the batch of the rest; the measure is the bytes that are left.
-use Prim.Native.Nat.{◌-◌, ◌≤◌}
+-- Call by call, in place: what is still to come is the batch of the chunks that are left.
+use Prim.Native.Nat.{◌+◌, ◌<◌, ◌≤◌}
+use mathlib.Core.Path.{◌≡◌}
 use lib.ListN.{length}
-use Rattle.track.specs.Answers.{SameSlices}
-use Rattle.call_log.specs.Machine.{Roomy}
-use Rattle.call_log.proofs.Batches.{log_in, SoFar}
+use Rattle.std.specs.Slice.Iter.{chunks_rest, chunks_size}
+use Rattle.player.specs.Answered.{SameColumns}
+use Rattle.call_log.specs.Logs.{call_size}
+use Rattle.call_log.specs.Machine.{log_in}
+use Rattle.call_log.proofs.Batches.{SoFar}
 use Rattle.call_log.proofs.run.Given as goal
 
-abbrev pub invariant-loop-used : goal.invariant-loop-used
-invariant-loop-used l =
+abbrev pub invariant-loop-call : goal.invariant-loop-call
+invariant-loop-call l =
     record {
-      used : l.used ≤ length l.bytes;
+      size : chunks_size l.call-iterator ≡ call_size;
+      used : l.used + length (chunks_rest l.call-iterator) ≡ length l.bytes;
+      number : l.number < 18446744073709551616;
       len : l.len ≤ length l.initial.out;
-      so_far : SoFar l.ended (log_in l.initial.turn l.logging l.spans l.initial.marks) l.bytes l.initial.out l.out (log_in l.turn l.logging l.spans l.marks) l.used l.len;
-      slices : SameSlices l.initial.rows l.rows;
-      roomy : Roomy l.rows;
+      so_far : SoFar l.ended (log_in l.initial.number l.initial.player) l.bytes l.initial.out l.out (log_in l.number l.player) (chunks_rest l.call-iterator) l.used l.len;
+      columns : SameColumns l.initial.player l.player;
     }
-
-abbrev pub decreases-loop-used : goal.decreases-loop-used
-decreases-loop-used l =
-    length l.bytes - l.used

@@ -3,7 +3,6 @@ use mathlib.Core.Path.{◌≡◌}
 use Rattle.std.proofs.Common.{rules}
 use lib.ListN.{length}
 use Rattle.steps.specs.Times.{max_entries}
-use Rattle.steps.proofs.Lists.{unmapped}
 use Rattle.track.specs.Calls.{Preview}
 use Rattle.timeline.proofs.Doors.{seated, door-shows}
 use Rattle.timeline.proofs.timeline.Timeline.preview.Goals as goal
@@ -12,6 +11,6 @@ pub returns : goal.returns
 returns c =
     let t = c.args.self in
     let own = c.well_formed.0.0 in
-    let long : length t.track.entries ≡ max_entries = search (unmapped, rules) in
+    let long : length t.track.entries ≡ max_entries = search rules in
     let x = c.preview.ensures in
     (x.0, door-shows t (Preview _ _) (seated t long c.of-c.ensures c.spans.ensures.0 c.spans.ensures.1) x.1)

@@ -3,7 +3,6 @@ use mathlib.Core.Path.{◌≡◌, refl}
 use Rattle.std.proofs.Common.{rules, Ok, Err}
 use lib.ListN.{length}
 use Rattle.steps.specs.Times.{max_entries}
-use Rattle.steps.proofs.Lists.{unmapped}
 use Rattle.track.specs.Calls.{Update}
 use Rattle.timeline.proofs.Doors.{seated, door-updates, door-stays}
 use Rattle.timeline.proofs.timeline.Timeline.update.Goals as goal
@@ -12,7 +11,7 @@ pub returns-in_err-made : goal.returns-in_err-made
 returns-in_err-made c =
     let t = c.args.self in
     let own = c.well_formed.0.0 in
-    let long : length t.track.entries ≡ max_entries = search (unmapped, rules) in
+    let long : length t.track.entries ≡ max_entries = search rules in
     let why : c.update-made.result ≡ Err c.in_err-made.field-0.0 = search rules in
     let answer : c.from_residual.result ≡ Err c.in_err-made.field-0.0 = search rules in
     let x = c.update-made.ensures in
@@ -22,7 +21,7 @@ pub returns : goal.returns
 returns c =
     let t = c.args.self in
     let own = c.well_formed.0.0 in
-    let long : length t.track.entries ≡ max_entries = search (unmapped, rules) in
+    let long : length t.track.entries ≡ max_entries = search rules in
     let passes : c.update-made.result ≡ Ok c.in_ok-made.field-0 = search rules in
     let x = c.update-made.ensures in
     (x.1, door-updates t long (Update _ _ _ _) c.of.ensures _ _ refl c.spans.ensures.0 c.spans.ensures.1 refl x.0 c.left.ensures (rw passes at x.2))

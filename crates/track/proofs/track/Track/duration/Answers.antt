@@ -3,7 +3,6 @@ use mathlib.Core.Path.{◌≡◌, ◌∙◌}
 use borrow.Author.Rules.{rules}
 use lib.ListN.{length}
 use Rattle.steps.specs.Times.{max_entries}
-use Rattle.steps.proofs.Lists.{unmapped}
 use Rattle.track.specs.Tracks.{track_base}
 use Rattle.track.proofs.Laid.{asked, base-trimmed}
 use Rattle.track.proofs.track.Track.duration.Goals as goal
@@ -11,5 +10,5 @@ use Rattle.track.proofs.track.Track.duration.Goals as goal
 pub returns : goal.returns
 returns c =
     let k = c.args.self in
-    let long : length k.entries ≡ max_entries = search (unmapped, rules) in
+    let long : length k.entries ≡ max_entries = search rules in
     asked track_base k long c.of-c.ensures c.spans.ensures.0 c.spans.ensures.1 c.duration.ensures ∙ base-trimmed k

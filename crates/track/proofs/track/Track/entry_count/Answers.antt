@@ -3,11 +3,10 @@ use mathlib.Core.Path.{◌≡◌}
 use native.Mathlib.Omega.{arith}
 use borrow.Author.Rules.{rules}
 use lib.ListN.{length, length-take}
-use Rattle.steps.proofs.Lists.{unmapped}
 use Rattle.track.proofs.track.Track.entry_count.Goals as goal
 
 pub returns : goal.returns
 returns c =
     let k = c.args.self in
-    let h : length k.entries ≡ 64 = search (unmapped, rules) in
+    let h : length k.entries ≡ 64 = search rules in
     omega (arith, h, c.min.ensures, length-take k.count k.entries)

@@ -5,7 +5,7 @@ use native.Mathlib.Omega.{arith}
 use borrow.Author.Rules.{rules}
 use lib.ListN.{length, length-set, length-take}
 use Rattle.steps.specs.Times.{max_entries}
-use Rattle.steps.proofs.Lists.{unmapped, front-more, front-all}
+use Rattle.steps.proofs.Lists.{front-more, front-all}
 use Rattle.track.specs.Tracks.{live}
 use Rattle.track.specs.Columns.{track_of}
 use Rattle.track.proofs.Marks.{no_entry}
@@ -19,7 +19,7 @@ loop-i-init c =
     let ss = g.spans.starts.now in
     let ds = g.spans.durations.now in
     let ms = g.marks.now in
-    let long : length g.self.entries ≡ max_entries = search (unmapped, rules) in
+    let long : length g.self.entries ≡ max_entries = search rules in
     let all = counted g.head ss ds ms c.entries.ensures in
     let room = roomy g.head ss ds ms _ all in
     let n = c.min-n.ensures in (

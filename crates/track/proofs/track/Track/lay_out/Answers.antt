@@ -8,7 +8,7 @@ use lib.ListN.{length, length-take}
 use lib.Ieee.{nan}
 use Rattle.steps.specs.declared.Entry.{Entry}
 use Rattle.steps.specs.Times.{max_entries}
-use Rattle.steps.proofs.Lists.{unmapped, part_at}
+use Rattle.steps.proofs.Lists.{part_at}
 use Rattle.track.specs.declared.track.Playhead.{Playhead}
 use Rattle.track.specs.Tracks.{live}
 use Rattle.track.proofs.Marks.{no_entry}
@@ -24,7 +24,7 @@ loop-i-init c =
     let ds = g.durations.now in
     let ms = g.marks.now in
     let es = taken k ss ds ms in
-    let long : length k.entries ≡ max_entries = search (unmapped, rules) in
+    let long : length k.entries ≡ max_entries = search rules in
     let live-long = length-take k.count k.entries in
     let es-long = length-take (min (length ss) (min (length ds) (length ms))) (live k) in
     let n = c.min-n.ensures in

@@ -8,7 +8,7 @@ use borrow.Author.Rules.{rules}
 use lib.ListN.{length, get_or, length-set, length-take}
 use Rattle.steps.specs.declared.Entry.{Entry}
 use Rattle.steps.specs.Times.{max_entries}
-use Rattle.steps.proofs.Lists.{unmapped, part_at, front-more, front_at, front-all}
+use Rattle.steps.proofs.Lists.{part_at, front-more, front_at, front-all}
 use Rattle.track.specs.Tracks.{live, marked, marks as marks_on}
 use Rattle.track.proofs.Marks.{no_entry, length_marked, marks-at}
 use Rattle.track.proofs.track.Track.with_marks.Goals as goal
@@ -18,7 +18,7 @@ loop-i-init c =
     let g = c.args in
     let k = g.self in
     let ms = g.marks.now in
-    let long : length k.entries ≡ max_entries = search (unmapped, rules) in
+    let long : length k.entries ≡ max_entries = search rules in
     let n = c.min-n.ensures in
     let lives = c.entry_count.ensures in
     let each = length_marked (live k) ms in (
