@@ -1,7 +1,8 @@
 -- The lines of a log, and how each is shown as bytes. Definitions only.
-use Rattle.std.specs.Prelude.{ℕ, ◌+◌, ◌≡◌, length}
+use Rattle.std.specs.Prelude.{ℕ, ◌+◌, ◌≤◌, ◌≡◌, length}
 use mathlib.Core.List.{List, [], ◌∷◌, ◌++◌, foldl, map}
 use Rattle.digits.specs.Digits.{hex_text, decimal, put_at}
+use Rattle.call_log.specs.declared.fields.Text.{Text}
 
 -- ---- lines
 
@@ -58,3 +59,8 @@ line_size = 1060
 pub record Wrote (text : List ℕ) (at : ℕ) (old new : List ℕ) (next : ℕ) : Type 0 where
   pub bytes : new ≡ put_at text at old
   pub ends : next ≡ at + length text
+
+-- the text p of a line, with a field more, is q: in the same array, where the field was put if it has room
+pub record Adds (field : List ℕ) (p q : Text) : Type 0 where
+  pub slice : q.out.ghost_name ≡ p.out.ghost_name
+  pub whole : p.at + length field ≤ length p.out.now → Wrote field p.at p.out.now q.out.now q.at

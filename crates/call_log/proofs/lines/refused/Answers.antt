@@ -1,13 +1,15 @@
 -- `sheet`, the number and the LF.
 use native.Mathlib.Omega.{arith}
+use Rattle.std.proofs.Common.{rules}
 use Rattle.call_log.specs.Lines.{shown}
-use Rattle.call_log.proofs.Writing.{wrote_then}
+use Rattle.call_log.proofs.Writing.{adds_then, adds_as, shown-refused, refused_few}
 use Rattle.call_log.proofs.lines.refused.Goals as goal
 
 pub returns : goal.returns
-unfolding shown
 returns c =
-    let a = c.put_sheet-at.ensures in
-    let b = rw c.number.ensures at c.put_small-at.ensures.0 in
-    let d = c.put_byte.ensures in
-    wrote_then (wrote_then a b (omega (arith, a.ends))) d (omega (arith, a.ends, d.ends))
+    let number = rw c.from.ensures at c.number-2.ensures in
+    let line = adds_as (shown-refused c.number.result) (adds_then (adds_then c.word.ensures number) c.byte.ensures) in
+    let few = refused_few c.number.result c.number.type_inv in
+    let put = line.whole (omega (arith, few, c.requires)) in
+    let w = rw c.number.ensures at put in
+    search (rules, w, line.slice)
