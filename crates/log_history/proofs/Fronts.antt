@@ -3,53 +3,34 @@ use Prim.Native.Nat.{ℕ, zero, suc, ◌+◌, ◌≤◌}
 use mathlib.Core.Path.{◌≡◌, refl, sym, ap, ◌∙◌}
 use mathlib.Core.Bool.{Bool, true, false, ◌||◌}
 use mathlib.Core.List.{List, [], ◌∷◌}
-use native.Mathlib.Nat.{not-suc-le-zero, le_of_suc-le-suc, le_refl}
+use native.Mathlib.Nat.{not-suc-le-zero, le_refl}
 use native.Mathlib.Omega.{arith}
-use borrow.Author.Tests.{lt-ltb, le-ltb, ltb-true, ltb-false, ne_eqb, eqb-true}
+use borrow.Author.Tests.{lt-ltb, le-ltb, ltb-true, ne_eqb, eqb-true}
 use lib.Dec.{eqb, ltb}
 use lib.ListN.{length, take, drop, length-take}
 use lib.Seq.{take-take, take-add, drop_at, length-take-le}
+use Rattle.std.specs.Prelude.{Option, None, Some}
+use Rattle.core.specs.Option.{unwrap_or}
 use Rattle.track.specs.declared.track.Track.{Track}
 use Rattle.words.specs.Words.{word}
-use Rattle.call_log.specs.declared.Log.{Log}
 use Rattle.sheet.specs.Build.{reading_of}
-use Rattle.call_log.specs.Logs.{is_cut, sheet_in, sheet_number, sheet_line, track_in, call_size, outcome_at}
-use Rattle.call_log.specs.Machine.{sheet_room, new_log, open_line, open_log, is_over, next_lines, next_log}
+use Rattle.call_log.specs.Logs.{is_cut, sheet_in, sheet_number, sheet_line, track_in, call_size}
+use Rattle.call_log.specs.Machine.{sheet_room, new_log, open_line, open_log, next_lines, next_log}
+use Rattle.call_log.proofs.Fronts.{word-take, ltb-front, outcome-front}
 use Rattle.call_log.proofs.Opening.{Whole, uncut, number_cut, number-whole}
 use Rattle.log_history.specs.Turns.{front_size}
 use Rattle.log_history.specs.Claim.{FrontOnly}
 
--- a word is in its first bytes
-pub word-take : (w k : ℕ) (s : List ℕ) → w ≤ k → word w (take k s) ≡ word w s
-unfolding word
-word-take zero k s h = refl
-word-take (suc w) zero s h = absurd (not-suc-le-zero h)
-word-take (suc w) (suc k) [] h = refl
-word-take (suc w) (suc k) (b ∷ s) h = rw (word-take w k s (le_of_suc-le-suc h))
-
--- a front of at least w bytes is as short as the whole, below w
-pub ltb-front : (w k : ℕ) (s : List ℕ) → w ≤ k → ltb (length (take k s)) w ≡ ltb (length s) w
-ltb-front w k s h = go (ltb (length s) w) refl
-  where
-    go : (b : Bool) → ltb (length s) w ≡ b → ltb (length (take k s)) w ≡ b
-    go true e = lt-ltb (length (take k s)) w (omega (arith, ltb-true (length s) w e, length-take k s))
-    go false e = le-ltb (length (take k s)) w (omega (arith, ltb-false (length s) w e, length-take k s))
-
--- the call at the front of the script is in its first bytes
-outcome-front : (t : Track) (rest : List ℕ) (k : ℕ) → call_size ≤ k → outcome_at t (take k rest) ≡ outcome_at t rest
-unfolding outcome_at
-outcome-front t rest zero h = absurd (not-suc-le-zero h)
-outcome-front t [] (suc k) h = refl
-outcome-front t (b ∷ s) (suc k) h = rw (ltb-front call_size (suc k) (b ∷ s) h, word-take 4 k s (le_of_suc-le-suc h))
-
-over-front : (log : Log) (rest : List ℕ) (k : ℕ) → call_size ≤ k → is_over log (take k rest) ≡ is_over log rest
-over-front log rest zero h = absurd (not-suc-le-zero h)
-over-front log [] (suc k) h = refl
-over-front log (b ∷ s) (suc k) h = rw (ne_eqb (length (b ∷ take k s)) 0 (λ e. omega arith), ne_eqb (length (b ∷ s)) 0 (λ e. omega arith))
+-- nothing is left of a front where nothing is left
+none-front : (rest : List ℕ) (k : ℕ) → call_size ≤ k → eqb (length (take k rest)) 0 ≡ eqb (length rest) 0
+none-front rest zero h = absurd (not-suc-le-zero h)
+none-front [] (suc k) h = refl
+none-front (b ∷ s) (suc k) h = rw (ne_eqb (length (b ∷ take k s)) 0 (λ e. omega arith), ne_eqb (length (b ∷ s)) 0 (λ e. omega arith))
 
 pub front_only : FrontOnly
 unfolding next_lines next_log
-front_only log rest k h = rw (over-front log rest k h, outcome-front log.track rest k h) (refl, refl)
+front_only None rest k h = (refl, refl)
+front_only (Some log) rest k h = rw (none-front rest k h, outcome-front log.track rest k h) (refl, refl)
 
 -- ---- the front of the input
 
@@ -70,12 +51,12 @@ cut_front input k h e = rw (ltb-front 2 k input h, word-take 2 k input h) (go (l
 
 -- the front of a whole input, with its sheet
 module _ (input : List ℕ) (w : Whole input) where
-  head-room : sheet_room (take 2 input) ≡ word 2 input
+  head-room : sheet_room (take 2 input) ≡ Some (word 2 input)
   unfolding sheet_room
   head-room = rw (ltb-front 2 2 input (omega arith), word-take 2 2 input (omega arith), le-ltb (length input) 2 w.some, le-ltb 2572 (word 2 input) w.few)
 
   pub front-size : front_size input ≡ 2 + word 2 input
-  front-size = ap (2 +◌) head-room
+  front-size = ap (λ (room : Option ℕ). 2 + unwrap_or room 0) head-room
 
   front-word : word 2 (take (2 + word 2 input) input) ≡ word 2 input
   front-word = word-take 2 (2 + word 2 input) input (omega arith)
@@ -106,7 +87,7 @@ module _ (input : List ℕ) where
       go : (b : Bool) → eqb (sheet_number input) 0 ≡ b → (open_line other ≡ open_line input) × (open_log other ≡ open_log input)
       go true g =
           let k : track_in other ≡ track_in input = ap (λ (s : List ℕ). (reading_of s).timeline.track) (f (eqb-true _ _ g)) in
-          rw (e, g) (ap sheet_line k, ap new_log k)
+          rw (e, g) (ap sheet_line k, ap (λ (t : Track). Some (new_log t)) k)
       go false g = rw (e, g) (refl, refl)
 
   pub opens-front : (open_line (take (front_size input) input) ≡ open_line input) × (open_log (take (front_size input) input) ≡ open_log input)

@@ -10,16 +10,17 @@ use borrow.Author.Tests.{lt-ltb, ne_eqb}
 use lib.Dec.{eqb}
 use lib.ListN.{length, drop, length-drop}
 use lib.Seq.{drop-drop}
+use Rattle.std.specs.Prelude.{Option, None, Some}
 use Rattle.track.specs.declared.track.Track.{Track}
 use Rattle.track.specs.Calls.{TrackOut}
 use Rattle.call_log.specs.declared.Log.{Log}
 use Rattle.call_log.specs.Lines.{shown, shown_all}
 use Rattle.call_log.specs.Logs.{call_size, outcome_at, from_call, after_calls, line_at, line_count, numbers_from}
-use Rattle.call_log.specs.Machine.{closed_log, last_number, counted, next_lines, next_log}
+use Rattle.call_log.specs.Machine.{last_number, counted, next_lines, next_log}
 use Rattle.log_history.specs.Turns.{run_from}
 
--- a log whose sheet was refused has no more lines
-pub closed_runs : (k : ℕ) (rest : List ℕ) → run_from k closed_log rest ≡ []
+-- where the sheet was refused there are no more lines
+pub closed_runs : (k : ℕ) (rest : List ℕ) → run_from k None rest ≡ []
 unfolding run_from next_lines next_log shown_all
 closed_runs zero rest = refl
 closed_runs (suc k) [] = refl
@@ -38,8 +39,8 @@ one_last : (n : ℕ) → 1 ≤ n → n ≤ 5 → (n + 4) / 5 ≡ 1
 one_last n h e = omega arith
 
 -- a log that goes on
-abbrev going : ℕ → Track → Log
-going i t = record { number = i; logging = true; track = t }
+abbrev going : ℕ → Track → Option Log
+going i t = Some (record { number = i; track = t })
 
 module _ (t : Track) (script : List ℕ) where
   next-track : (i : ℕ) (now : Track) (rest : List ℕ) → outcome_at now rest ≡ outcome_at (after_calls t script i) (from_call script i) → (outcome_at now rest).track ≡ after_calls t script (suc i)

@@ -9,7 +9,8 @@ use borrow.Author.Tests.{leb-true, eqb-true}
 use lib.Dec.{eqb}
 use lib.ListN.{length, take, drop, length-append, length-drop, take-append-drop, drop_of_length-le}
 use lib.Seq.{drop-drop, take-append-le, drop-append-le}
-use Rattle.steps.proofs.Tests.{and-true}
+use Rattle.std.specs.Prelude.{Option}
+use Rattle.std.proofs.lemmas.Bool.{and_parts}
 use Rattle.call_log.specs.declared.Log.{Log}
 use Rattle.call_log.specs.Lines.{shown_all}
 use Rattle.call_log.specs.Logs.{call_size}
@@ -22,7 +23,7 @@ use Rattle.call_log.proofs.Batches.{some_bytes, is-next, drop-taken, more-calls}
 -- ---- what is still to come
 
 -- fuel for as many calls as there are bytes is enough
-pub enough_runs : (k m : ℕ) (log : Log) (rest : List ℕ) → length rest ≤ k → length rest ≤ m → run_from k log rest ≡ run_from m log rest
+pub enough_runs : (k m : ℕ) (log : Option Log) (rest : List ℕ) → length rest ≤ k → length rest ≤ m → run_from k log rest ≡ run_from m log rest
 unfolding run_from
 enough_runs zero zero log rest h i = refl
 enough_runs zero (suc m) log [] h i = refl
@@ -35,7 +36,7 @@ enough_runs (suc k) (suc m) log (b ∷ rest) h i =
     rw (enough_runs k m (next_log log (b ∷ rest)) (drop call_size (b ∷ rest)) (omega arith) (omega arith))
 
 -- the next line, and then those behind it
-next_comes : (log : Log) (rest : List ℕ) → 1 ≤ length rest → to_come log rest ≡ next_bytes log rest ++ to_come (next_log log rest) (drop call_size rest)
+next_comes : (log : Option Log) (rest : List ℕ) → 1 ≤ length rest → to_come log rest ≡ next_bytes log rest ++ to_come (next_log log rest) (drop call_size rest)
 unfolding run_from
 next_comes log [] h = absurd (not-suc-le-zero h)
 next_comes log (b ∷ rest) h =
@@ -44,7 +45,7 @@ next_comes log (b ∷ rest) h =
 
 -- ---- a batch
 
-module _ (log : Log) (bytes unread : List ℕ) where
+module _ (log : Option Log) (bytes unread : List ℕ) where
   -- the next call is the same with what is unread behind the bytes: its line, the log after it, and the rest
   pub record Same : Type 0 where
     pub line : next_bytes log (bytes ++ unread) ≡ next_bytes log bytes
@@ -74,7 +75,7 @@ left_cond false x y bytes unread log e f = f
 
 module _ (ended : Bool) (unread : List ℕ) (ends : ended ≡ true → unread ≡ []) where
   -- a call, and then calls that lose nothing
-  call-keeps : (log : Log) (bytes : List ℕ) (b : Calls) → least_bytes ended ≤ length bytes → left b (drop call_size bytes) unread ≡ to_come (next_log log bytes) (drop call_size bytes ++ unread)
+  call-keeps : (log : Option Log) (bytes : List ℕ) (b : Calls) → least_bytes ended ≤ length bytes → left b (drop call_size bytes) unread ≡ to_come (next_log log bytes) (drop call_size bytes ++ unread)
       → left (call_then (length (take call_size bytes)) (next_bytes log bytes) b) bytes unread ≡ to_come log (bytes ++ unread)
   call-keeps log bytes b h e =
       let same = same_next log bytes unread ended ends h in
@@ -83,12 +84,12 @@ module _ (ended : Bool) (unread : List ℕ) (ends : ended ≡ true → unread �
       sym (drop-drop b.used (length (take call_size bytes)) bytes) ∙ ap (drop b.used) (drop-taken call_size bytes) in
       rw (append_assoc, rest, e) (sym (next_comes log (bytes ++ unread) some ∙ rw (same.line, same.after, same.behind)))
 
-  batch-keeps : (k : ℕ) (log : Log) (bytes : List ℕ) (room : ℕ) → left (batch_from k ended log bytes room) bytes unread ≡ to_come log (bytes ++ unread)
+  batch-keeps : (k : ℕ) (log : Option Log) (bytes : List ℕ) (room : ℕ) → left (batch_from k ended log bytes room) bytes unread ≡ to_come log (bytes ++ unread)
   unfolding batch_from
   batch-keeps zero log bytes room = refl
   batch-keeps (suc k) log bytes room =
       left_cond (is_next ended bytes room) _ _ bytes unread _
-      (λ e. call-keeps log bytes _ (leb-true _ _ (and-true _ _ e).0) (batch-keeps k (next_log log bytes) (drop call_size bytes) (room - length (next_bytes log bytes)))) refl
+      (λ e. call-keeps log bytes _ (leb-true _ _ (and_parts _ _ e).0) (batch-keeps k (next_log log bytes) (drop call_size bytes) (room - length (next_bytes log bytes)))) refl
 
 -- room for a line and the bytes of a call: the call is made
 pub goes_on : GoesOn
@@ -107,7 +108,7 @@ turn_keeps d t =
     let bytes = d.kept ++ take t.count d.unread in
     let unread = drop t.count d.unread in
     let all : bytes ++ unread ≡ d.kept ++ d.unread = append_assoc d.kept (take t.count d.unread) unread ∙ ap (d.kept ++◌) (take-append-drop t.count d.unread) in
-    let keeps = batch-keeps (t.asks && eqb (length unread) 0) unread (λ e. nothing unread (and-true t.asks (eqb (length unread) 0) e).1) (length bytes) d.log bytes t.room in
+    let keeps = batch-keeps (t.asks && eqb (length unread) 0) unread (λ e. nothing unread (and_parts t.asks (eqb (length unread) 0) e).1) (length bytes) d.log bytes t.room in
     rw append_assoc (ap (d.text ++◌) (keeps ∙ ap (to_come d.log) all))
 
 -- nor do turns

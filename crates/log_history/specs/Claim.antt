@@ -1,5 +1,5 @@
 -- What is claimed of logs: calling the functions in turn prints exactly the log of the definition, and the worked example.
-use Rattle.std.specs.Prelude.{ℕ, ◌≤◌, ◌<◌, ◌≡◌, Bool, List, [], ◌∷◌, ◌++◌, length, take}
+use Rattle.std.specs.Prelude.{ℕ, ◌≤◌, ◌<◌, ◌≡◌, Bool, Option, List, [], ◌∷◌, ◌++◌, length, take}
 use Rattle.std.specs.Float.{nan}
 use Rattle.float32.specs.Helpers.{to_bits}
 use Rattle.call_log.specs.declared.Log.{Log}
@@ -16,7 +16,7 @@ Prints = (input : List ℕ) → length input < last_number → printed input ≡
 -- a call and its line depend on no more than the bytes of one call: the program may hold back the rest
 abbrev pub FrontOnly : Type 0
 FrontOnly =
-    (log : Log) (rest : List ℕ) (k : ℕ) → call_size ≤ k
+    (log : Option Log) (rest : List ℕ) (k : ℕ) → call_size ≤ k
     → (next_lines log (take k rest) ≡ next_lines log rest) × (next_log log (take k rest) ≡ next_log log rest)
 
 -- what the program wrote, and then all that is still to come of the bytes that it has not used
@@ -37,7 +37,7 @@ EndsWhole =
 -- and that comes: where the bytes of a call are there and the room of a line, the call is made
 abbrev pub GoesOn : Type 0
 GoesOn =
-    (ended : Bool) (log : Log) (bytes : List ℕ) (room : ℕ) → least_bytes ended ≤ length bytes → line_size ≤ room
+    (ended : Bool) (log : Option Log) (bytes : List ℕ) (room : ℕ) → least_bytes ended ≤ length bytes → line_size ≤ room
     → length (take call_size bytes) ≤ (batch_of ended log bytes room).used
 
 -- The worked example: "Once, scale 1.0, `a` of 1.0 at Start, `b` of 0.5 at End; play, update 1.0, update 1.0". A line each for the length,

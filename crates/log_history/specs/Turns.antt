@@ -1,5 +1,6 @@
 -- The log that comes of calling the functions of crate call_log in turn, as the program does. Definitions only.
-use Rattle.std.specs.Prelude.{ℕ, zero, suc, ◌+◌, Bool, ◌&&◌, eqb, length, take, drop}
+use Rattle.std.specs.Prelude.{ℕ, zero, suc, ◌+◌, Bool, ◌&&◌, Option, eqb, length, take, drop}
+use Rattle.std.specs.Option.{unwrap_or}
 use mathlib.Core.List.{List, [], ◌∷◌, ◌++◌, foldl}
 use Rattle.call_log.specs.declared.Log.{Log}
 use Rattle.call_log.specs.Lines.{shown}
@@ -7,14 +8,14 @@ use Rattle.call_log.specs.Logs.{length_size, call_size}
 use Rattle.call_log.specs.Machine.{sheet_room, open_line, open_log, next_log, next_bytes, Calls, batch_of}
 
 -- `next`, call by call, until nothing is left of the script; the first number is fuel
-unfoldable pub run_from : ℕ → Log → List ℕ → List ℕ
+unfoldable pub run_from : ℕ → Option Log → List ℕ → List ℕ
 run_from zero log rest = []
 run_from (suc k) log [] = []
 run_from (suc k) log (b ∷ rest) = next_bytes log (b ∷ rest) ++ run_from k (next_log log (b ∷ rest)) (drop call_size (b ∷ rest))
 
 -- how many bytes the program reads before it opens the log, by the first two
 abbrev pub front_size : List ℕ → ℕ
-front_size input = length_size + sheet_room (take length_size input)
+front_size input = length_size + unwrap_or (sheet_room (take length_size input)) 0
 
 -- what the program prints: the line of `open` on the front of the input, then those of `next` on the rest
 unfoldable pub printed : List ℕ → List ℕ
@@ -23,12 +24,12 @@ printed input =
     shown (open_line front) ++ run_from (length input) (open_log front) (drop (front_size input) input)
 
 -- all that is still to be written of these bytes
-abbrev pub to_come : Log → List ℕ → List ℕ
+abbrev pub to_come : Option Log → List ℕ → List ℕ
 to_come log rest = run_from (length rest) log rest
 
 -- Where the program stands: the log, the bytes that it read and did not use, those that it has not read, and all that it wrote.
 pub record Door : Type 0 where
-  pub log : Log
+  pub log : Option Log
   pub kept : List ℕ
   pub unread : List ℕ
   pub text : List ℕ
