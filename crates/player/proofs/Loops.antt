@@ -27,7 +27,7 @@ use Rattle.track.proofs.Columns.{first_at, own, put}
 use Rattle.track.proofs.Ticks.{length-ticks, turn_at}
 use Rattle.player.specs.declared.engine.Player.{Player}
 use Rattle.player.specs.Answered.{playing_in, SameColumns}
-use Rattle.player.specs.Loops.{first_in, ticks_in, SentIn, SentTo}
+use Rattle.player.specs.Loops.{entry_at, first_in, ticks_in, SentIn, SentTo}
 
 -- each step's part of the three row slices
 abbrev kinds_of : List Stepped → List ℕ
@@ -151,6 +151,14 @@ module _ (n : ℕ) (step : Step) (spans : Spans) (ms : List Bool) (rs : List ℕ
   turn i h k e s here steps =
       let own = turn_at step.prev step.next es rs i h k e s here steps in
       (own, ap (λ (x : Entry). not x.done && s.done) here ∙ ap (λ (y : Stepped). not (get_or es i no_entry).done && y.done) own)
+
+  -- and of a loop that leaves marks and rows
+  pub turn-kept : {k₀ k : List ℕ} {a₀ a p₀ p : List Float} {m : List Bool} {i : ℕ} → Kept n ss spans.starts.now spans.durations.now ms k₀ a₀ p₀ m k a p i → i < n → n ≤ length rs → {e : Entry} {s : Stepped} → e ≡ entry_at i spans m → s ≡ ticked step.prev step.next e (get_or rs i 0)
+      → (i < length es) × (s ≡ get_or ss i no_step) × ((not e.done && s.done) ≡ (not (get_or es i no_entry).done && (get_or ss i no_step).done))
+  turn-kept {i = i} inv below replies {e} {s} here steps =
+      let h : i < length es = omega (arith, each-step, inv.each, below) in
+      let x = turn i h (omega (arith, below, replies)) e s (here ∙ next-kept _ _ _ _ _ _ _ _ _ _ _ _ _ inv below) steps in
+      (h, x.0, x.1)
 
 -- ---- what the loop leaves of the player
 

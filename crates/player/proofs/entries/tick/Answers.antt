@@ -1,4 +1,3 @@
-use Prim.Native.Nat.{◌<◌}
 use mathlib.Core.Path.{◌≡◌, refl, sym, ap, ◌∙◌}
 use native.Mathlib.Omega.{arith}
 use lib.ListN.{length}
@@ -6,7 +5,7 @@ use Rattle.steps.specs.declared.Entry.{Entry}
 use Rattle.track.proofs.Ticks.{none_listed, room-listed, one-listed, all_listed}
 use Rattle.track.proofs.Columns.{length-first}
 use Rattle.player.specs.Loops.{first_in, ticks_in}
-use Rattle.player.proofs.Loops.{none_kept, next-kept, one_kept, all-kept, each-step, turn}
+use Rattle.player.proofs.Loops.{none_kept, one_kept, all-kept, each-step, turn-kept}
 use Rattle.player.proofs.entries.tick.Goals as goal
 
 pub loop-i-init : goal.loop-i-init
@@ -21,27 +20,21 @@ loop-i-init c =
 pub note-listed-requires : goal.note-listed-requires
 note-listed-requires c =
     let g = c.args in
-    let l = c.loop-i in
-    let v = l.invariant in
+    let v = c.loop-i.invariant in
     let each = each-step g.n g.step g.spans g.marks.now g.replies.now in
-    let below : l.i < g.n = c.loop-i-test.true in
-    let h : l.i < length (first_in g.n g.spans g.marks.now) = omega (arith, each, v.2.each) in
-    let here = c.entry_at-e.ensures ∙ next-kept _ _ _ _ _ _ _ _ _ _ _ _ _ v.2 below in
-    let now = turn g.n g.step g.spans g.marks.now g.replies.now l.i h (omega (arith, below, v.1)) _ _ here c.ticked-s.ensures in
-    (omega (arith, below, v.0), omega (arith, below, v.2.room-m, v.2.same-m), sym (ap (λ (e : Entry). e.done) c.entry_at-e.ensures), room-listed _ _ _ each _ _ _ v.3 h _ now.1)
+    let below = c.loop-i-test.true in
+    let now = turn-kept g.n g.step g.spans g.marks.now g.replies.now v.2 below v.1 c.entry_at-e.ensures c.ticked-s.ensures in
+    (omega (arith, below, v.0), omega (arith, below, v.2.room-m, v.2.same-m), sym (ap (λ (e : Entry). e.done) c.entry_at-e.ensures), room-listed _ _ _ each _ _ _ v.3 now.0 _ now.2)
 
 pub loop-i-preserved : goal.loop-i-preserved
 loop-i-preserved c =
     let g = c.args in
-    let l = c.loop-i in
-    let v = l.invariant in
+    let v = c.loop-i.invariant in
     let each = each-step g.n g.step g.spans g.marks.now g.replies.now in
-    let below : l.i < g.n = c.loop-i-test.true in
-    let h : l.i < length (first_in g.n g.spans g.marks.now) = omega (arith, each, v.2.each) in
-    let here = c.entry_at-e.ensures ∙ next-kept _ _ _ _ _ _ _ _ _ _ _ _ _ v.2 below in
-    let now = turn g.n g.step g.spans g.marks.now g.replies.now l.i h (omega (arith, below, v.1)) _ _ here c.ticked-s.ensures in
+    let below = c.loop-i-test.true in
+    let now = turn-kept g.n g.step g.spans g.marks.now g.replies.now v.2 below v.1 c.entry_at-e.ensures c.ticked-s.ensures in
     let noted = c.note-listed.ensures in
-    (v.0, v.1, one_kept _ _ _ _ _ _ _ _ _ _ _ _ _ v.2 below _ now.0 _ noted.2, one-listed _ _ _ each _ _ _ v.3 h _ now.1 _ _ noted.1 noted.0)
+    (v.0, v.1, one_kept _ _ _ _ _ _ _ _ _ _ _ _ _ v.2 below _ now.1 _ noted.2, one-listed _ _ _ each _ _ _ v.3 now.0 _ now.2 _ _ noted.1 noted.0)
 
 pub returns : goal.returns
 returns c =
