@@ -35,7 +35,8 @@ const PREFIX: usize = 5;
 
 const LONGEST: usize = 25;
 
-// The label of an item: the first len bytes. Paper 01 has fixed arrays in place of heap types.
+// The label of an item: the first len bytes. Paper 01 has fixed arrays in place of heap types. No `write!` into an `ArrayString`: that
+// answers a Result, and its digits are std's, where the labels are said by `decimal` of crate digits.
 #[derive(Clone, Copy)]
 pub struct ItemLabel {
     pub bytes: [u8; LONGEST],

@@ -12,8 +12,8 @@ use crate::put::put;
 use sheet_rules::HEADER_SIZE;
 use words::PAIR_SIZE;
 
-// Writes the pairs of these entries, whose labels start behind the records. The bounds are asked here and in `put_records`, and are
-// no type's: a struct of the room could not keep them, since a ghost field beside a `&mut` is not covered.
+// Writes the pairs of these entries, whose labels start behind the records. What is asked of the room is asked here and in
+// `put_records` alone, so no type keeps it.
 pub(crate) fn put_pairs(room: &mut [u8], items: &[Item])
     requires { (length items.now ≤ max_entries) × (labels_at (length items.now) ≤ length room.old) }
     ensures { room.new ≡ put_at (pairs_of (labels_at (length items.now)) items.now) header_size room.old }
