@@ -1,6 +1,6 @@
--- What a call made in place answers, and what it leaves in all that was lent to it. A contract cites one of the last four.
+-- What a call answers, what it leaves in all that was lent to it, and the columns that a track is laid out in.
 use denote.Triple.Both.{Both}
-use denote.MutBor.{MutBor, as_bor}
+use denote.MutBor.{MutBor}
 use Rattle.std.specs.Borrow.{Bor}
 use Rattle.std.specs.Prelude.{ℕ, min, ◌≡◌, Bool, true, false, not, cond, List, map, length, take, replicate, Float, Result, Ok, Err}
 use Rattle.steps.specs.declared.Entry.{Entry}
@@ -17,7 +17,7 @@ use Rattle.track.specs.declared.track.Track.{Track}
 use Rattle.track.specs.declared.track.Playhead.{Playhead}
 use Rattle.track.specs.declared.track.Columns.{Columns}
 use Rattle.track.specs.Tracks.{live, with_only, Sent}
-use Rattle.track.specs.Columns.{track_of, with_clock_at}
+use Rattle.track.specs.Columns.{track_of}
 use Rattle.track.specs.Calls.{Room, room_of, TrackOut}
 
 -- a slice lent to be read, as a contract has it: `s.entry.now` is what it held when it was lent, `s.exit.now` what it holds after the call
@@ -27,10 +27,6 @@ Lent A = Both (Bor (List A)) (Bor (List A))
 -- a slice lent to be written, likewise
 abbrev pub LentMut : Type 0 → Type 0
 LentMut A = Both (MutBor (List A)) (MutBor (List A))
-
--- what it held and holds, as of a slice that is lent to be read
-abbrev pub seen : {A : Type 0} → LentMut A → Lent A
-seen s = record { entry = as_bor s.entry; exit = as_bor s.exit }
 
 -- the three row slices, likewise
 abbrev pub LentRows : Type 0
@@ -88,12 +84,9 @@ pub record ShowsBy (o : TrackOut) (n : ℕ) (k₀ k : List ℕ) (a₀ a p₀ p :
   pub refusal : n ≡ o.refusal
   pub rows : Sent o.rows k₀ k a₀ a p₀ p
 
--- the track that the playhead plays in lent columns, and the track that is left in them with the clock c; starts and durations stay
+-- the track that the playhead plays in lent columns
 abbrev pub lent_track : Playhead → Spans → Lent Bool → Track
 lent_track head spans marks = track_of head spans.starts.now spans.durations.now marks.entry.now
-
-abbrev pub left_track : Playhead → Clock → Spans → LentMut Bool → Track
-left_track head c spans marks = track_of (with_clock_at head c) spans.starts.now spans.durations.now marks.exit.now
 
 -- how many places the lent row slices have
 abbrev pub lent_room : LentRows → Room
