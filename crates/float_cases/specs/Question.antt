@@ -4,6 +4,8 @@ use Rattle.std.specs.Float.Ieee.{is_nan}
 use Rattle.float32.specs.Helpers.{max_f, min_f, clamp_f, finite_f, from_u32, to_u32, infinity_f, from_bits, to_bits}
 use Rattle.case_io.specs.Bits.{zeroless}
 use Rattle.refusal.specs.declared.Refusal.{Refusal}
+use Rattle.refusal.specs.Refusal.{accepted}
+use Rattle.refusal.specs.Refusal.{number as refusal_number}
 use Rattle.tween.specs.StaggerPattern.{origin_of, delay_of}
 use Rattle.tween.specs.declared.stagger_pattern.GridOrigin.{GridOrigin}
 use Rattle.tween.specs.declared.stagger_pattern.StaggerPattern.{StaggerPattern}
@@ -60,3 +62,9 @@ answers a b c d e =
 -- the answer to question `op` on five operands
 unfoldable pub answer_of : ℕ → List ℕ → Answer
 answer_of op xs = get_or (answers (slice_index xs 0) (slice_index xs 1) (slice_index xs 2) (slice_index xs 3) (slice_index xs 4)) op None
+
+-- the two numbers of an answer's line: its refusal, 255 where there is no such question, and what is answered, 0 where that is refused
+abbrev pub numbered : Answer → ℕ × ℕ
+numbered (Some (Ok n)) = (accepted, n)
+numbered (Some (Err r)) = (refusal_number r, 0)
+numbered None = (255, 0)

@@ -19,9 +19,6 @@ const LINE: usize = 12;
 // Records that are read at a time.
 const BLOCK: usize = 3072;
 
-// What an unknown question is refused by.
-const UNKNOWN: u8 = 255;
-
 // Answers to the end of the input, or until a write fails. A proved loop has to end, and nothing says that the input does: so it ends at
 // a number of turns that no run uses up; `rt.forever()` would need leave to wait.
 fn main(rt: HostRuntime) {
@@ -49,11 +46,7 @@ fn answer_block(stdin: &mut Stdin, stdout: Stdout) -> io::Result<bool> {
 // The line of a record.
 fn line_of(record: &[u8; RECORD]) -> [u8; LINE] {
     let operands = [1, 5, 9, 13, 17].map(|at| u32_at(record, at));
-    let (refusal, bits) = match question::ask(record[0], operands) {
-        Some(Ok(bits)) => (refusal::ACCEPTED, bits),
-        Some(Err(refusal)) => (refusal.number(), 0),
-        None => (UNKNOWN, 0),
-    };
+    let (refusal, bits) = question::numbered(question::ask(record[0], operands));
     let mut line = *b"00 00000000\n";
     digits::put_hex2(refusal, &mut line, 0);
     digits::put_hex8(bits, &mut line, 3);

@@ -1,6 +1,6 @@
 // What can be asked, by its number, and what is answered.
 ghost use Rattle.std.specs.Prelude.{◌≡◌};
-ghost use Rattle.float_cases.specs.Question.{answer_of, delayed};
+ghost use Rattle.float_cases.specs.Question.{answer_of, delayed, numbered};
 
 use case_io::text::zeroless_bits;
 use refusal::Refusal;
@@ -54,4 +54,18 @@ fn delayed(pattern: StaggerPattern, index: u32) -> Result<u32, Refusal>
     ensures { result ≡ delayed pattern index }
 {
     Ok(zeroless_bits(pattern.delay(index)?))
+}
+
+// What an unknown question is refused by.
+const UNKNOWN: u8 = 255;
+
+// The two numbers of an answer's line: its refusal, and what is answered.
+pub(crate) fn numbered(answer: Option<Result<u32, Refusal>>) -> (u8, u32)
+    ensures { result ≡ numbered answer }
+{
+    match answer {
+        Some(Ok(bits)) => (refusal::ACCEPTED, bits),
+        Some(Err(refusal)) => (refusal.number(), 0),
+        None => (UNKNOWN, 0),
+    }
 }
