@@ -142,7 +142,8 @@ pub fn progress_in(run: Run, elapsed: f32) -> f32
     float32::clamp(run.local_time(elapsed) / run.base, 0.0, 1.0)
 }
 
-// The loops go by index. Tried without: after `iter_mut` under a `zip` a proof knows how many entries there are, and not what was written.
+// The loops go by index. Tried without, in `with_marks`: after `iter_mut` under a `zip` a proof knows how many entries there are, and not
+// what was written.
 impl Track {
     // `Timeline::new`
     #[tactic(auto, unfolding(crate::specs::Tracks::empty_track))]
