@@ -29,9 +29,17 @@ pub(crate) fn come_to<L: FnMut(&Rows<'_>)>(
     };
     match job {
         Job::SeekAbsOnce | Job::SeekAbsForever => {
-            seeks_abs(&mut player, base, turns, &mut lent.rows, look);
+            let seek = |player: &mut Player<'_, '_>, share: f32, rows: &mut Rows<'_>| {
+                player.seek_abs(Secs(share * base), rows).is_ok();
+            };
+            seeks(&mut player, turns, &mut lent.rows, look, seek);
         }
-        Job::SeekPingPong => seeks(&mut player, turns, &mut lent.rows, look),
+        Job::SeekPingPong => {
+            let seek = |player: &mut Player<'_, '_>, share: f32, rows: &mut Rows<'_>| {
+                player.seek(Share(share), rows).is_ok();
+            };
+            seeks(&mut player, turns, &mut lent.rows, look, seek);
+        }
         _ => updates(&mut player, job.step(base, turns), turns, &mut lent, look),
     }
     lent.is_written(player.head.count)
@@ -58,33 +66,18 @@ fn started(head: Playhead, job: Job, spans: Spans<'_>) -> Playhead {
     player.head
 }
 
-// Seeks to thousandths of the base. It is no loop with `seeks`, by a closure: tried and slower, by 20 instructions a call.
-fn seeks_abs<L: FnMut(&Rows<'_>)>(
-    player: &mut Player<'_, '_>,
-    base: f32,
-    turns: u32,
-    rows: &mut Rows<'_>,
-    mut look: L,
-)
-    requires { L.IsAlwaysCallable look }
-{
-    for turn in 0..turns {
-        player.seek_abs(Secs(share(turn) * base), rows).is_ok();
-        look(rows);
-    }
-}
-
-// Seeks to thousandths of the run.
-fn seeks<L: FnMut(&Rows<'_>)>(
+// Seeks to thousandths of the base, or of the run.
+fn seeks<L: FnMut(&Rows<'_>), S: Fn(&mut Player<'_, '_>, f32, &mut Rows<'_>)>(
     player: &mut Player<'_, '_>,
     turns: u32,
     rows: &mut Rows<'_>,
     mut look: L,
+    seek: S,
 )
-    requires { L.IsAlwaysCallable look }
+    requires { L.IsAlwaysCallable look × S.IsAlwaysCallable seek }
 {
     for turn in 0..turns {
-        player.seek(Share(share(turn)), rows).is_ok();
+        seek(player, share(turn), rows);
         look(rows);
     }
 }
