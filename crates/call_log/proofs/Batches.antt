@@ -8,10 +8,7 @@ use native.Mathlib.Omega.{arith}
 use borrow.Author.Tests.{le-leb, lt-leb, leb-true, leb-false}
 use lib.Dec.{leb}
 use lib.ListN.{length, take, drop, length-take, length-drop}
-use lib.Seq.{drop-drop}
 use Rattle.std.specs.Prelude.{Option, None, Some}
-use Rattle.digits.specs.Digits.{put_at}
-use Rattle.track.specs.declared.track.Track.{Track}
 use Rattle.track.specs.declared.track.Playhead.{Playhead}
 use Rattle.track.specs.Columns.{with_clock_at}
 use Rattle.player.specs.declared.engine.Player.{Player}

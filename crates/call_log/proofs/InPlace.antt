@@ -1,6 +1,6 @@
 -- Calls on the live entries alone, and the same calls on the whole track: a batch of them, too.
 use Prim.Native.Nat.{ℕ, zero, suc, ◌-◌, ◌≤◌, min}
-use mathlib.Core.Path.{◌≡◌, refl, sym, ap, subst, ◌∙◌}
+use mathlib.Core.Path.{◌≡◌, refl, sym, ap, ◌∙◌}
 use mathlib.Core.Bool.{Bool, true, false, cond}
 use mathlib.Core.List.{List, [], ◌∷◌}
 use native.Mathlib.Omega.{arith}

@@ -14,7 +14,7 @@ use lib.Seq.{take-suc, set_split}
 use Rattle.std.specs.Prelude.{Option, None, Some}
 use Rattle.core.specs.Option.{unwrap_or}
 use Rattle.float32.specs.Helpers.{to_bits}
-use Rattle.digits.specs.Digits.{decimal, hex_text, written_count, Put}
+use Rattle.digits.specs.Digits.{decimal, written_count, Put}
 use Rattle.digits.proofs.Length.{length_digits}
 use Rattle.digits.proofs.PutAt.{put_at_nil}
 use Rattle.digits.proofs.Room.{put_whole}

@@ -1,5 +1,4 @@
 -- The call, and its line.
-use native.Mathlib.Omega.{arith}
 use Rattle.call_log.proofs.Making.{logs-one}
 use Rattle.call_log.proofs.next.Goals as goal
 

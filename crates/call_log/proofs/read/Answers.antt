@@ -1,7 +1,5 @@
 -- The sheet is cut, or it is refused, or it has its log.
-use Prim.Native.Nat.{ℕ}
 use mathlib.Core.Path.{◌≡◌, refl, sym, ap, ◌∙◌}
-use mathlib.Core.Bool.{true, false}
 use native.Mathlib.Omega.{arith}
 use Rattle.std.proofs.Common.{rules, Err, None, Some}
 use Rattle.refusal.specs.declared.Refusal.TheVariants.{SheetLength}
@@ -9,7 +7,7 @@ use Rattle.refusal.specs.Refusal.{number, number_if}
 use Rattle.refusal.proofs.Numbers.{number-above}
 use Rattle.track.specs.declared.track.Track.{Track}
 use Rattle.sheet.specs.Build.{reading_of, NumberedReading, numbered_reading}
-use Rattle.call_log.specs.Logs.{is_cut, sheet_in, sheet_number, track_in}
+use Rattle.call_log.specs.Logs.{sheet_in, sheet_number, track_in}
 use Rattle.call_log.specs.Machine.{new_log}
 use Rattle.call_log.proofs.Opening.{number_cut, number-whole, open-refused, open-accepted}
 use Rattle.call_log.proofs.read.Goals as goal

@@ -1,14 +1,13 @@
 -- Call by call, in place: what is still to come is the batch of the chunks that are left.
-use Prim.Native.Nat.{◌+◌, ◌-◌, ◌≤◌, ◌<◌, min}
+use Prim.Native.Nat.{◌+◌, ◌-◌, ◌≤◌, min}
 use mathlib.Core.Path.{◌≡◌, refl, ap, ◌∙◌}
 use mathlib.Core.Bool.{false}
 use native.Mathlib.Omega.{arith}
 use lib.ListN.{length, length-append}
-use Rattle.std.proofs.Common.{rules}
 use Rattle.std.specs.Slice.Iter.{chunks_rest}
 use Rattle.call_log.specs.Lines.{line_size}
 use Rattle.call_log.specs.Logs.{call_size}
-use Rattle.call_log.specs.Machine.{counted, least_bytes, is_next, log_in}
+use Rattle.call_log.specs.Machine.{least_bytes, is_next}
 use Rattle.call_log.proofs.Making.{counts}
 use Rattle.call_log.proofs.Batches.{no_bytes, none_fits, some_bytes, least_few, then_columns, one_more, no_more}
 use Rattle.call_log.proofs.run.Goals.{then-call-least-via-then-call-least, then-call-least-via-else-call-least+then-out-len-lt-LINE}

@@ -1,7 +1,6 @@
 -- `sheet`, the number and the LF.
 use native.Mathlib.Omega.{arith}
 use Rattle.std.proofs.Common.{rules}
-use Rattle.call_log.specs.Lines.{shown}
 use Rattle.call_log.proofs.Writing.{adds_then, adds_as, shown-refused, refused_few}
 use Rattle.call_log.proofs.lines.refused.Goals as goal
 
