@@ -160,7 +160,7 @@ impl Walk {
         requires { (length (ends spans) ≤ most_entries) × (at + length (in_cycle self start 0 (ends spans)) ≤ length list.old) }
         ensures { (result ≡ at + length (in_cycle self start 0 (ends spans.entry))) × (list.new ≡ sets list.old at (in_cycle self start 0 (ends spans.entry))) }
     {
-        // by hand: a proof knows nothing of what `iter_mut` wrote
+        // by index: tried with `iter_mut`, whose loop's invariant cannot name the list, so that what was written stays open
         let mut k = at;
         for (i, (s, d)) in spans.starts.iter().zip(spans.durations).enumerate() {
             if self.completes(start, *s + *d) {

@@ -52,7 +52,8 @@ fn put_digits(n: usize, base: usize, width: usize, out: &mut [u8], at: usize) ->
     Some(width)
 }
 
-// From the last digit to the first. By index: after an `iter_mut` a proof knows how long the slice is, and not what it holds.
+// From the last digit to the first. By index: tried with `iter_mut`, whose loop's invariant cannot name the lent slice, so that a proof
+// knows how long it is after the loop, and not what it holds.
 fn write_digits(n: usize, base: usize, width: usize, out: &mut [u8], at: usize)
     requires base_nonzero { (0 < base) × (base ≤ 16) }
     requires width_in_bounds { at + width ≤ length out.old }

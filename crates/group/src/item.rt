@@ -36,8 +36,8 @@ const PREFIX: usize = 5;
 
 const LONGEST: usize = 25;
 
-// The label of an item: the first len bytes. Paper 01 has fixed arrays in place of heap types. No `write!` into an `ArrayString`: that
-// answers a Result, and its digits are std's, where the labels are said by `decimal` of crate digits.
+// The label of an item: the first len bytes. Paper 01 has fixed arrays in place of heap types. No `write!` into an `ArrayString`: tried, and
+// the label stays open, since of a `write!` it is said what it writes where it does not fail, and not that it does not fail.
 #[derive(Clone, Copy, Debug)]
 pub struct ItemLabel {
     pub bytes: [u8; LONGEST],

@@ -26,14 +26,14 @@ returns-in_err-at g c = λ places gives.
 
 pub returns-in_err-timeline : goal.returns-in_err-timeline
 returns-in_err-timeline g c = λ places gives.
-    let before = c.loop-i.invariant places gives in
-    let turned = turn places _ _ _ nan before c.loop-i-test.true (room _ (sym c.in_ok-too_many.ensures)) _ gives _ c.in_ok-at.ensures _ (c.text.ensures ∙ c.new-label.ensures) in
+    let few = room _ (sym c.in_ok-too_many.ensures) in
+    let turned = turn places _ _ _ nan (c.loop-i.invariant places gives) c.loop-i-test.true few _ gives _ c.in_ok-at.ensures _ (c.text.ensures ∙ c.new-label.ensures) in
     absurd (turned.none _ c.in_err-timeline.ensures.refusal)
 
 pub loop-i-preserved : goal.loop-i-preserved
 loop-i-preserved g c = λ places gives.
-    let before = c.loop-i.invariant places gives in
-    let turned = turn places _ _ _ nan before c.loop-i-test.true (room _ (sym c.in_ok-too_many.ensures)) _ gives _ c.in_ok-at.ensures _ (c.text.ensures ∙ c.new-label.ensures) in
+    let few = room _ (sym c.in_ok-too_many.ensures) in
+    let turned = turn places _ _ _ nan (c.loop-i.invariant places gives) c.loop-i-test.true few _ gives _ c.in_ok-at.ensures _ (c.text.ensures ∙ c.new-label.ensures) in
     rw c.in_ok-timeline.ensures.timeline turned.more
 
 pub returns : goal.returns
