@@ -1,6 +1,6 @@
 -- The loop adds the items that `item_calls` adds: no item is refused, nor a place of the closure.
 use Prim.Native.Nat.{◌<◌}
-use mathlib.Core.Path.{◌≡◌, sym, ◌∙◌}
+use mathlib.Core.Path.{sym, ◌∙◌}
 use native.Mathlib.Omega.{arith}
 use lib.Ieee.{nan}
 use Rattle.std.specs.Prelude.{Err}
