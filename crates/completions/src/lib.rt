@@ -160,7 +160,7 @@ impl Walk {
         requires { (length (ends spans) ≤ most_entries) × (at + length (in_cycle self start 0 (ends spans)) ≤ length list.old) }
         ensures { (result ≡ at + length (in_cycle self start 0 (ends spans.entry))) × (list.new ≡ sets list.old at (in_cycle self start 0 (ends spans.entry))) }
     {
-        // by hand: a proof knows nothing of what `iter_mut` wrote
+        // by index: tried with `iter_mut`, whose loop's invariant cannot name the list, so that what was written stays open
         let mut k = at;
         for (i, (s, d)) in spans.starts.iter().zip(spans.durations).enumerate() {
             if self.completes(start, *s + *d) {
@@ -190,7 +190,8 @@ impl Walk {
     }
 
     // The second pass: writes them over the front of a list that has room. Of the walk itself the passes share `onward` and one
-    // test; a walk that takes a closure would be longer, since its contract has to say which calls it makes.
+    // test. One walk with a closure is no plainer: each turn asks something of the turns before it (here room in the list, above
+    // m <= room), so the walk would take an invariant, and a proof that its closure keeps it, where each loop has its own.
     fn write(self, spans: Spans, first: u32, list: &mut [u8])
         requires { (length (ends spans) ≤ most_entries) × (length (cycles_from self (ends spans) first) ≤ length list.old) }
         ensures { list.new ≡ over (cycles_from self (ends spans.entry) first) list.old }

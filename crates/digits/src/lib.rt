@@ -1,5 +1,7 @@
 // Numbers as text, in ASCII, put into a lent slice. Each answers how many bytes were written: none where the text has no
 // room there, and then nothing is written.
+// None of them asks for room, since no public function here asks anything of its callers: who knows that there is room takes
+// `unwrap_or(0)`, and proves by `put_whole` that the 0 is never taken.
 // Put by hand: `write!` writes at the end of a text, and what had no room is lost or cut.
 #![tactic(auto)]
 
@@ -50,7 +52,8 @@ fn put_digits(n: usize, base: usize, width: usize, out: &mut [u8], at: usize) ->
     Some(width)
 }
 
-// From the last digit to the first. By index: after an `iter_mut` a proof knows how long the slice is, and not what it holds.
+// From the last digit to the first. By index: tried with `iter_mut`, whose loop's invariant cannot name the lent slice, so that a proof
+// knows how long it is after the loop, and not what it holds.
 fn write_digits(n: usize, base: usize, width: usize, out: &mut [u8], at: usize)
     requires base_nonzero { (0 < base) × (base ≤ 16) }
     requires width_in_bounds { at + width ≤ length out.old }
