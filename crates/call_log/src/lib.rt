@@ -28,7 +28,7 @@ pub const CALL: usize = 5;
 pub const LIST: usize = MOST_ENTRIES;
 
 // A call of a script: its byte and its f32.
-#[derive(Clone, Copy)]
+#[derive(Clone, Copy, Debug, PartialEq)]
 struct Call {
     byte: u8,
     x: f32,
@@ -57,7 +57,7 @@ pub struct Batched {
 }
 
 // The answer of run: the number of the last line, how many bytes it used, and how long the lines are.
-#[derive(Clone, Copy)]
+#[derive(Clone, Copy, Debug, PartialEq, Eq)]
 struct Ran {
     number: usize,
     used: usize,

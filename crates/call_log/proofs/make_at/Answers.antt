@@ -2,7 +2,6 @@
 use mathlib.Core.Path.{◌≡◌, refl}
 use Rattle.std.proofs.Common.{rules, Some, None, Err}
 use Rattle.refusal.specs.declared.Refusal.TheVariants.{BadCall}
-use Rattle.steps.proofs.Lists.{unmapped}
 use Rattle.player.specs.Answered.{playing_in}
 use Rattle.call_log.proofs.Making.{makes_none, makes_one}
 use Rattle.call_log.proofs.make_at.Goals as goal
@@ -21,4 +20,4 @@ returns c =
     let own = c.well_formed in
     let some : c.call_at.result ≡ Some call = search rules in
     makes_one p c.args.rest.now call.byte call.x _ _ _ _ _ _ _ ((rw some at c.call_at.ensures) (playing_in p)) refl
-    (search (unmapped, rules, own)) (search (unmapped, rules, own)) (search (unmapped, rules, own)) (search (unmapped, rules, own)) c.make.ensures
+    (search (rules, own)) (search (rules, own)) (search (rules, own)) (search (rules, own)) c.make.ensures
