@@ -35,21 +35,21 @@ struct Call {
 }
 
 // A log: how many lines of calls it has, and what plays, as the calls left it.
-#[derive(Clone, Copy)]
+#[derive(Clone, Copy, Debug)]
 pub struct Log {
     pub number: usize,
     pub track: Track,
 }
 
 // The answer of open: how long the line is, and the log, or why the sheet is refused, which has its line, too.
-#[derive(Clone, Copy)]
+#[derive(Clone, Copy, Debug)]
 pub struct Opened {
     pub len: usize,
     pub log: Result<Log, Refusal>,
 }
 
 // The answer of batch: how many bytes it used, how long the lines are, and the log.
-#[derive(Clone, Copy)]
+#[derive(Clone, Copy, Debug)]
 pub struct Batched {
     pub used: usize,
     pub len: usize,
@@ -138,12 +138,8 @@ pub fn batch(log: Option<Log>, bytes: &[u8], ended: bool, out: &mut [u8]) -> Bat
             log: None,
         };
     };
-    let columns = &mut Columns::of(log.track);
-    let mut player = Player {
-        head: columns.head,
-        spans: columns.held.spans(),
-        marks: &mut columns.marks,
-    };
+    let mut columns = Columns::of(log.track);
+    let mut player = Player::of(&mut columns);
     let ran = run(log.number, &mut player, bytes, ended, out);
     let gathered = log.track.gather(player.head, player.spans, player.marks);
     let track = Track {

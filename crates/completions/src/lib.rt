@@ -190,7 +190,8 @@ impl Walk {
     }
 
     // The second pass: writes them over the front of a list that has room. Of the walk itself the passes share `onward` and one
-    // test; a walk that takes a closure would be longer, since its contract has to say which calls it makes.
+    // test. One walk with a closure is no plainer: each turn asks something of the turns before it (here room in the list, above
+    // m <= room), so the walk would take an invariant, and a proof that its closure keeps it, where each loop has its own.
     fn write(self, spans: Spans, first: u32, list: &mut [u8])
         requires { (length (ends spans) ≤ most_entries) × (length (cycles_from self (ends spans) first) ≤ length list.old) }
         ensures { list.new ≡ over (cycles_from self (ends spans.entry) first) list.old }

@@ -168,10 +168,9 @@ fn finite_remainder(x: f32, y: f32) -> f32
     ensures { result ≡ Ieee.rem Ieee.binary32 x y }
 {
     let pattern = Pattern(x.to_bits());
-    let divisor = Scaled::of(Pattern(y.to_bits()));
-    if divisor.digits == 0 {
+    let Some(divisor) = Scaled::of(Pattern(y.to_bits())).divisor() else {
         return f32::NAN;
-    }
+    };
     let rest = Scaled::of(pattern).rest(divisor);
     from_u32(rest.digits) * unit_of(pattern.is_negative(), rest.scale)
 }

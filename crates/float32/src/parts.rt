@@ -1,5 +1,5 @@
 // The parts of a float's bits, as whole numbers: a finite value's size is its digits times 2^scale of the smallest values, 2^-149.
-ghost use Rattle.std.specs.Prelude.{◌≡◌, ◌*◌, ◌/◌, ◌%◌, ◌^◌, ◌-◌, ◌<◌, ◌≤◌, min, leb};
+ghost use Rattle.std.specs.Prelude.{◌≡◌, ◌*◌, ◌/◌, ◌%◌, ◌^◌, ◌-◌, ◌<◌, ◌≤◌, min, leb, IfNone, IfSome};
 ghost use Rattle.std.specs.Float.Ieee as Ieee;
 ghost use Rattle.float32.specs.Parts.{field_of, digits_in, scale_of, unit_pattern};
 
@@ -67,6 +67,13 @@ pub(crate) struct Scaled {
     ghost fits: { digits < 2 ^ 24 },
 }
 
+// A finite size above 0.
+#[derive(Clone, Copy)]
+pub(crate) struct Divisor {
+    pub(crate) size: Scaled,
+    ghost positive: { 0 < size.digits },
+}
+
 impl Scaled {
     // The size of a finite value.
     pub(crate) fn of(pattern: Pattern) -> Scaled
@@ -77,6 +84,17 @@ impl Scaled {
             digits: pattern.digits(),
             scale: pattern.scale(),
         }
+    }
+
+    // As a divisor, where it is not 0.
+    pub(crate) fn divisor(self) -> Option<Divisor>
+        ensures zero { IfNone result (self.digits ≡ 0) }
+        ensures size { IfSome result (λ divisor. divisor.size ≡ self) }
+    {
+        if self.digits == 0 {
+            return None;
+        }
+        Some(Divisor { size: self })
     }
 
     // Its whole part: the digits, shifted. Below a scale of 126 it is below 1.
@@ -95,42 +113,39 @@ impl Scaled {
 
     // What is left of it after as many divisors as go into it, at the lower scale of the two.
     #[tactic(auto, using(crate::proofs::Rest::rest_scaled, crate::proofs::Rest::rest_lower))]
-    pub(crate) fn rest(self, divisor: Scaled) -> Scaled
-        requires { 0 < divisor.digits }
-        ensures value { result.digits * 2 ^ result.scale ≡ self.digits * 2 ^ self.scale % (divisor.digits * 2 ^ divisor.scale) }
-        ensures scale { result.scale ≡ min self.scale divisor.scale }
+    pub(crate) fn rest(self, divisor: Divisor) -> Scaled
+        ensures value { result.digits * 2 ^ result.scale ≡ self.digits * 2 ^ self.scale % (divisor.size.digits * 2 ^ divisor.size.scale) }
+        ensures scale { result.scale ≡ min self.scale divisor.size.scale }
     {
-        if self.scale < divisor.scale {
+        if self.scale < divisor.size.scale {
             return Scaled {
-                digits: self.rest_above(divisor, divisor.scale - self.scale),
+                digits: self.rest_above(divisor, divisor.size.scale - self.scale),
                 scale: self.scale,
             };
         }
         Scaled {
-            digits: self.rest_below(divisor, self.scale - divisor.scale),
-            scale: divisor.scale,
+            digits: self.rest_below(divisor, self.scale - divisor.size.scale),
+            scale: divisor.size.scale,
         }
     }
 
     // digits % (d * 2^k), of a divisor's digits d. From 24 places on the digits are below that.
     #[tactic(auto, using(crate::proofs::Rest::small_rest))]
-    fn rest_above(self, divisor: Scaled, k: u32) -> u32
-        requires { 0 < divisor.digits }
-        ensures { result ≡ self.digits % (divisor.digits * 2 ^ k) }
+    fn rest_above(self, divisor: Divisor, k: u32) -> u32
+        ensures { result ≡ self.digits % (divisor.size.digits * 2 ^ k) }
     {
         if k >= 24 {
             return self.digits;
         }
-        let divisor = u64::from(divisor.digits) << k;
+        let divisor = u64::from(divisor.size.digits) << k;
         (u64::from(self.digits) % divisor) as u32
     }
 
     // digits * 2^k % d, by 32 places at a time.
-    fn rest_below(self, divisor: Scaled, k: u32) -> u32
-        requires { 0 < divisor.digits }
-        ensures { result ≡ self.digits * 2 ^ k % divisor.digits }
+    fn rest_below(self, divisor: Divisor, k: u32) -> u32
+        ensures { result ≡ self.digits * 2 ^ k % divisor.size.digits }
     {
-        let divisor = u64::from(divisor.digits);
+        let divisor = u64::from(divisor.size.digits);
         let mut rest = u64::from(self.digits) % divisor;
         for _ in 0..k / 32 {
             rest = (rest << 32) % divisor;

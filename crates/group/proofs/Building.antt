@@ -7,16 +7,17 @@ use native.Mathlib.Omega.{arith}
 use lib.ListN.{length, drop, get_or, drop_of_length-le}
 use lib.Seq.{drop-cons}
 use lib.Ieee.{Float}
+use Rattle.std.specs.Prelude.{Result, Ok}
 use Rattle.refusal.specs.declared.Refusal.{Refusal}
 use Rattle.refusal.specs.Refusal.{number}
+use Rattle.refusal.proofs.Numbers.{number-not}
 use Rattle.steps.specs.Times.{max_entries}
 use Rattle.track.specs.Tracks.{empty_track}
 use Rattle.timeline.specs.declared.timeline.At.{At}
 use Rattle.timeline.specs.declared.timeline.Timeline.{Timeline}
 use Rattle.timeline.specs.Placements.{empty}
 use Rattle.timeline.specs.Calls.{Add, Out, step, after}
-use Rattle.group.specs.Items.{item_label, item_calls}
-use Rattle.group.proofs.Going.{refuses}
+use Rattle.group.specs.Items.{item_label, item_calls, Gives}
 use Rattle.group.proofs.Items.{item_added}
 
 -- the first i items are added, and t is the timeline
@@ -50,7 +51,20 @@ module _ (at : ℕ → At) (ds : List Float) where
     pub none_refused : (r : Refusal) → number r ≡ added.refusal → ⊥
     none_refused r e =
         let k : i < max_entries = omega arith in
-        refuses r (e ∙ ap (λ (o : Out). o.refusal) (item_added t i (at i) (get_or ds i d) b.counted k))
+        number-not r (e ∙ ap (λ (o : Out). o.refusal) (item_added t i (at i) (get_or ds i d) b.counted k))
+
+    -- a turn, where the closure gives the item's place: the item is not refused, and one more is added
+    pub record Turn (o : Out) : Type 0 where
+      pub none : (r : Refusal) → number r ≡ o.refusal → ⊥
+      pub more : Building at ds o.timeline (i + 1)
+
+    pub turn : (post : ℕ → Result At Refusal → Type 0) → Gives post at → (p : At) → post i (Ok p) → (label : List ℕ) → label ≡ item_label i
+        → Turn (step t (Add label p (get_or ds i d)))
+    turn post gives p asked label text =
+        let k : i < max_entries = omega arith in
+        let e = gives i (Ok p) k asked in
+        let placed : p ≡ at i = cc in
+        rw (text, placed) (record { none = none_refused; more = one_more })
 
   pub all_added : (t : Timeline) (i : ℕ) → Building at ds t i → length ds ≤ i → t ≡ after empty (item_calls at 0 ds)
   unfolding item_calls after

@@ -1,21 +1,15 @@
 -- A sequence with one entry more, by the answer of the timeline's call.
 use mathlib.Core.Path.{◌≡◌, refl}
-use native.Mathlib.Omega.{arith}
-use borrow.Author.Tests.{ne_eqb}
 use lib.Ieee.{Float}
 use Rattle.std.specs.Prelude.{Ok, Err}
 use Rattle.refusal.specs.declared.Refusal.{Refusal}
-use Rattle.refusal.specs.Refusal.{accepted, number}
-use Rattle.refusal.proofs.Numbers.{number-above}
+use Rattle.refusal.specs.Refusal.{accepted}
+use Rattle.refusal.proofs.Numbers.{refused}
 use Rattle.timeline.specs.declared.timeline.Timeline.{Timeline}
 use Rattle.timeline.specs.Calls.{Out}
 use Rattle.timeline.specs.Answers.{Adds}
 use Rattle.group.specs.declared.sequence.Sequence.{Sequence}
 use Rattle.group.specs.Sequence.{cursor_after, then_by, Goes}
-
--- no refusal has the number of an accepted call
-pub refuses : (r : Refusal) → number r ≡ accepted → ⊥
-refuses r e = omega (arith, number-above r)
 
 module _ (s : Sequence) (o : Out) (duration : Float) where
   -- where the entry is added
@@ -26,4 +20,4 @@ module _ (s : Sequence) (o : Out) (duration : Float) where
   -- where it is refused
   pub stays : (r : Refusal) → Adds o s.inner (Err r) → Goes (then_by s o duration) s (Err r)
   unfolding then_by
-  stays r a = rw (← a.refusal, ne_eqb (number r) accepted (refuses r)) (record { refusal = refl; sequence = refl })
+  stays r a = rw (← a.refusal, refused r) (record { refusal = refl; sequence = refl })

@@ -4,7 +4,7 @@ use mathlib.Core.Path.{◌≡◌, refl, sym, ap, ◌∙◌}
 use mathlib.Core.Bool.{Bool, true, false, cond}
 use mathlib.Core.List.{List, ◌++◌}
 use native.Mathlib.Omega.{arith}
-use borrow.Author.Tests.{ltb-false, ne_eqb}
+use borrow.Author.Tests.{ltb-false}
 use lib.Dec.{ltb, lit≤}
 use lib.ListN.{length, take, length-append, length-take}
 use lib.Ieee.{Float}
@@ -12,6 +12,7 @@ use Rattle.std.specs.Prelude.{Option, Ok, Err}
 use Rattle.std.specs.Option.{unwrap_or}
 use Rattle.refusal.specs.declared.Refusal.{Refusal}
 use Rattle.refusal.specs.Refusal.{accepted, timeline_full, number}
+use Rattle.refusal.proofs.Numbers.{refused}
 use Rattle.digits.specs.Digits.{decimal, put_at, Put}
 use Rattle.digits.proofs.Claim.{decimal-least, decimal-word}
 use Rattle.digits.proofs.Room.{put_whole}
@@ -24,7 +25,6 @@ use Rattle.timeline.specs.Placements.{empty, resolve_start, grown}
 use Rattle.timeline.specs.Calls.{Call, Add, silent, step, after}
 use Rattle.timeline.proofs.Growing.{grows}
 use Rattle.group.specs.Items.{item_prefix, item_label, too_many, first_refusal, built_by, hands_out}
-use Rattle.group.proofs.Going.{refuses}
 
 -- ---- labels
 
@@ -72,12 +72,12 @@ room n e = go (ltb max_entries n) refl e
 -- the first of two refusals, where it is one
 pub refused_first : (r : Refusal) (n : ℕ) → number r ≡ first_refusal (number r) n
 unfolding first_refusal
-refused_first r n = rw (ne_eqb (number r) accepted (refuses r))
+refused_first r n = rw (refused r)
 
 -- a refused builder
 pub refused_as : (r : Refusal) (m : ℕ) (calls : List Call) → number r ≡ m → hands_out (Err r) ≡ built_by m calls
 unfolding built_by after
-refused_as r m calls e = rw (← e, ne_eqb (number r) accepted (refuses r))
+refused_as r m calls e = rw (← e, refused r)
 
 -- an accepted one
 pub built_as : (t : Timeline) (m : ℕ) (calls : List Call) → accepted ≡ m → t ≡ after empty calls → hands_out (Ok t) ≡ built_by m calls

@@ -10,12 +10,12 @@ use Rattle.float32.specs.Helpers.{zero_f}
 use Rattle.refusal.specs.declared.Refusal.{Refusal}
 use Rattle.refusal.specs.declared.Refusal.TheVariants.{GridTooLarge}
 use Rattle.refusal.specs.Refusal.{accepted, number_in, held_or}
+use Rattle.refusal.proofs.Numbers.{number-not}
 use Rattle.tween.specs.declared.stagger_pattern.StaggerPattern.{StaggerPattern}
 use Rattle.tween.specs.declared.stagger_pattern.StaggerPattern.TheVariants.{Grid, Random, CenterOut, EdgesIn}
 use Rattle.tween.specs.StaggerPattern.{max_side, grid_delay, delay_of}
 use Rattle.group.specs.Items.{hands_out}
 use Rattle.group.specs.Group.{stagger_of}
-use Rattle.group.proofs.Going.{refuses}
 use Rattle.group.proofs.Items.{refused_first, refused_as}
 
 either_refusal : (b : Bool) (r : Refusal) (x y : Float) → number_in (cond b (Err r) (Ok x)) ≡ number_in (cond b (Err r) (Ok y))
@@ -34,7 +34,7 @@ delays p i e = go (delay_of p i) (patterns p i ∙ sym e)
   where
     go : (d : Result Float Refusal) → number_in d ≡ accepted → d ≡ Ok (held_or zero_f d)
     go (Ok x) h = refl
-    go (Err r) h = absurd (refuses r h)
+    go (Err r) h = absurd (number-not r h)
 
 -- where it refuses the first index, the builder refuses
 pub refused_pattern : (ds : List Float) (p : StaggerPattern) (r : Refusal) → Err r ≡ delay_of p 0 → hands_out (Err r) ≡ stagger_of ds p

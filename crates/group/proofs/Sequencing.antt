@@ -9,6 +9,7 @@ use lib.Seq.{take-suc}
 use lib.Ieee.{Float}
 use Rattle.refusal.specs.declared.Refusal.{Refusal}
 use Rattle.refusal.specs.Refusal.{accepted, number}
+use Rattle.refusal.proofs.Numbers.{number-not}
 use Rattle.float32.specs.Helpers.{zero_f}
 use Rattle.steps.specs.Times.{max_entries}
 use Rattle.timeline.specs.declared.timeline.At.TheVariants.{Absolute}
@@ -18,7 +19,6 @@ use Rattle.group.specs.declared.sequence.Sequence.{Sequence}
 use Rattle.group.specs.Items.{item_label}
 use Rattle.group.specs.Sequence.{Sequenced, Then, new_sequence, cursor_after, then_by, sequence_step}
 use Rattle.group.specs.Group.{cursor_at, at_cursor}
-use Rattle.group.proofs.Going.{refuses}
 use Rattle.group.proofs.Items.{item_added}
 use Rattle.group.proofs.Building.{Building, none_added, one_more}
 
@@ -60,4 +60,4 @@ module _ (ds : List Float) where
     pub none_stopped : (r : Refusal) → number r ≡ next.refusal → ⊥
     none_stopped r e =
         let k : i < max_entries = omega arith in
-        refuses r (e ∙ ap (λ (o : Sequenced). o.refusal) (then_item s i (get_or ds i d) q.building.counted k))
+        number-not r (e ∙ ap (λ (o : Sequenced). o.refusal) (then_item s i (get_or ds i d) q.building.counted k))

@@ -34,6 +34,18 @@ impl From<Timeline> for AnimationGroup {
     }
 }
 
+impl Built<AnimationGroup> {
+    // The same of the group's timeline.
+    pub fn timeline(self) -> Built<Timeline>
+        ensures { (result.refusal ≡ self.refusal) × (result.panel ≡ self.panel.inner) }
+    {
+        Built {
+            refusal: self.refusal,
+            panel: self.panel.timeline(),
+        }
+    }
+}
+
 impl AnimationGroup {
     // The same, by the Rust's name.
     pub fn from_timeline(timeline: Timeline) -> AnimationGroup

@@ -3,6 +3,7 @@ ghost use Rattle.std.specs.Prelude.{◌≡◌, ◌≤◌, ℕ, length, take};
 ghost use Rattle.refusal.specs.Refusal.{number_in, number_if, held_or};
 ghost use Rattle.timeline.specs.declared.timeline.At.{At};
 ghost use Rattle.timeline.specs.Placements.{empty};
+ghost use Rattle.group.specs.declared.item.TheConstants.{LONGEST};
 ghost use Rattle.group.specs.Items.{item_label, item_calls, too_many, built_by, hands_out, Gives};
 
 use refusal::Refusal;
@@ -10,7 +11,7 @@ use steps::MAX_ENTRIES;
 use timeline::timeline::{At, Timeline};
 
 // The answer of a builder; where it is refused, the panel is empty. No Result: a refused builder hands out the empty panel (paper 01).
-#[derive(Clone, Copy)]
+#[derive(Clone, Copy, Debug, PartialEq)]
 pub struct Built<P> {
     pub refusal: Option<Refusal>,
     pub panel: P,
@@ -37,11 +38,11 @@ const LONGEST: usize = 25;
 
 // The label of an item: the first len bytes. Paper 01 has fixed arrays in place of heap types. No `write!` into an `ArrayString`: that
 // answers a Result, and its digits are std's, where the labels are said by `decimal` of crate digits.
-#[derive(Clone, Copy)]
+#[derive(Clone, Copy, Debug)]
 pub struct ItemLabel {
     pub bytes: [u8; LONGEST],
     pub len: usize,
-    pub ghost fits: { len ≤ 25 },
+    pub ghost fits: { len ≤ LONGEST },
 }
 
 impl ItemLabel {

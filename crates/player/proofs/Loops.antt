@@ -2,7 +2,7 @@
 use Prim.Native.Nat.{ℕ, ◌+◌, ◌<◌, ◌≤◌}
 use mathlib.Core.Path.{◌≡◌, refl, sym, ap, subst, ◌∙◌}
 use mathlib.Core.Bool.{Bool, false, not, ◌&&◌}
-use mathlib.Core.List.{List, map}
+use mathlib.Core.List.{List, map, map-map}
 use native.Mathlib.Omega.{arith}
 use lib.ListN.{length, get_or, set, length-set, length-map}
 use lib.Ieee.{Float, nan}
@@ -13,7 +13,8 @@ use Rattle.steps.specs.declared.Row.{Row}
 use Rattle.steps.specs.declared.Rule.{Rule}
 use Rattle.steps.specs.declared.Step.{Step}
 use Rattle.steps.specs.declared.Stepped.{Stepped}
-use Rattle.steps.proofs.Lists.{front, front-more, front_at, front-all, map_at, map-map}
+use Rattle.std.proofs.lemmas.List.{get_or-map}
+use Rattle.steps.proofs.Lists.{front, front-more, front_at, front-all}
 use Rattle.completions.specs.Columns.{most_entries}
 use Rattle.completions.specs.declared.Spans.{Spans}
 use Rattle.clock.specs.declared.Clock.{Clock}
@@ -112,10 +113,10 @@ module _ (n : ℕ) (xs : List Stepped) (ss ds : List Float) (m₀ : List Bool) (
           same-k = length-set k i s.row.kind ∙ inv.same-k;
           same-a = length-set a i s.row.amount ∙ inv.same-a;
           same-p = length-set p i s.row.place ∙ inv.same-p;
-          marks-are = em ∙ front-more i (done_of xs) m₀ m s.done false (omega arith) (omega arith) (ap (λ (x : Stepped). x.done) step ∙ sym (map_at (λ (x : Stepped). x.done) xs i no_step _ (omega arith))) inv.marks-are;
-          kinds = front-more i (kinds_of xs) k₀ k s.row.kind 0 (omega arith) (omega arith) (ap (λ (x : Stepped). x.row.kind) step ∙ sym (map_at (λ (x : Stepped). x.row.kind) xs i no_step _ (omega arith))) inv.kinds;
-          amounts = front-more i (amounts_of xs) a₀ a s.row.amount nan (omega arith) (omega arith) (ap (λ (x : Stepped). x.row.amount) step ∙ sym (map_at (λ (x : Stepped). x.row.amount) xs i no_step _ (omega arith))) inv.amounts;
-          places = front-more i (places_of xs) p₀ p s.row.place nan (omega arith) (omega arith) (ap (λ (x : Stepped). x.row.place) step ∙ sym (map_at (λ (x : Stepped). x.row.place) xs i no_step _ (omega arith))) inv.places;
+          marks-are = em ∙ front-more i (done_of xs) m₀ m s.done false (omega arith) (omega arith) (ap (λ (x : Stepped). x.done) step ∙ sym (get_or-map (λ (x : Stepped). x.done) xs i no_step _ (omega arith))) inv.marks-are;
+          kinds = front-more i (kinds_of xs) k₀ k s.row.kind 0 (omega arith) (omega arith) (ap (λ (x : Stepped). x.row.kind) step ∙ sym (get_or-map (λ (x : Stepped). x.row.kind) xs i no_step _ (omega arith))) inv.kinds;
+          amounts = front-more i (amounts_of xs) a₀ a s.row.amount nan (omega arith) (omega arith) (ap (λ (x : Stepped). x.row.amount) step ∙ sym (get_or-map (λ (x : Stepped). x.row.amount) xs i no_step _ (omega arith))) inv.amounts;
+          places = front-more i (places_of xs) p₀ p s.row.place nan (omega arith) (omega arith) (ap (λ (x : Stepped). x.row.place) step ∙ sym (get_or-map (λ (x : Stepped). x.row.place) xs i no_step _ (omega arith))) inv.places;
         }
 
     -- after the last turn

@@ -1,4 +1,3 @@
-pub mod Tests
 pub mod Zero
 pub mod Inside
 pub mod Lists

@@ -1,21 +1,14 @@
 -- Laws on lists that loops cite, over any element type.
---     unmapped      what owning an array of structs tells is the length of a mapped list: the list's own length
 --     front-..      a loop that writes the list xs over the front of old: the invariant is `out ≡ front i xs old`
---     map_at        what a turn stores is the definition's, where xs is a map
 use Prim.Native.Nat.{ℕ, zero, suc, ◌+◌, ◌<◌, ◌≤◌}
-use mathlib.Core.Path.{◌≡◌, refl, sym, ap, ◌∙◌}
-use mathlib.Core.List.{List, [], ◌∷◌, ◌++◌, map}
-pub use mathlib.Core.List.{map-map}
+use mathlib.Core.Path.{◌≡◌, refl, ap, ◌∙◌}
+use mathlib.Core.List.{List, [], ◌∷◌, ◌++◌}
 use native.Mathlib.Nat.{not-suc-le-zero, le_of_suc-le-suc}
 use native.Mathlib.Numerals.{add-one}
 use native.Mathlib.Omega.{arith}
-use lib.ListN.{length, get_or, set, take, drop, length-map, length-take}
+use lib.ListN.{length, get_or, set, take, drop, length-take}
 use lib.Seq.{get_or-take, take-length}
 use Rattle.std.proofs.lemmas.List.{take_min}
-pub use Rattle.std.proofs.lemmas.List.{get_or-map as map_at}
-
-pub unmapped : {X Y : Type 0} (f : X → Y) (l : List X) (n : ℕ) → length (map f l) ≡ n → length l ≡ n
-unmapped f l n p = sym (length-map l f) ∙ p
 
 -- an element below a part's length, read from the whole: `get_or-take`, by the bound that callers have
 pub part_at : {A : Type 0} (n : ℕ) (l : List A) (i : ℕ) (d : A) → i < length (take n l) → get_or (take n l) i d ≡ get_or l i d

@@ -1,10 +1,8 @@
 // The builders: what they build is what plays next.
 use group::group::AnimationGroup;
-use group::item::Built;
 use group::sequence::Sequence;
 use group::stagger::stagger;
 use refusal::{ACCEPTED, Refusal, number_if, number_in};
-use timeline::timeline::Timeline;
 use trace_places::run::Run;
 use trace_read::{Builder, Cursor, Cut, Item, ROWS};
 
@@ -21,21 +19,13 @@ pub(crate) fn building(
     let durations = cursor.durations(&mut room)?;
     let built = match how {
         Builder::Stagger(delay) => stagger(durations, delay),
-        Builder::GroupParallel => ungrouped(AnimationGroup::parallel(durations)),
-        Builder::GroupSequence => ungrouped(AnimationGroup::sequence(durations)),
-        Builder::GroupStagger(pattern) => ungrouped(AnimationGroup::stagger(durations, pattern)),
+        Builder::GroupParallel => AnimationGroup::parallel(durations).timeline(),
+        Builder::GroupSequence => AnimationGroup::sequence(durations).timeline(),
+        Builder::GroupStagger(pattern) => AnimationGroup::stagger(durations, pattern).timeline(),
     };
     run.replace(built.panel, number_if(built.refusal));
     trace_lines::entries(run.sink, &run.timeline);
     Ok(())
-}
-
-// A group's timeline. A function, since neither type is this crate's, and so no `From` could stand here.
-fn ungrouped(built: Built<AnimationGroup>) -> Built<Timeline> {
-    Built {
-        refusal: built.refusal,
-        panel: built.panel.timeline(),
-    }
 }
 
 // Sequence, of n items. Of each its refusal is shown, and the cursor after it: they are kept, since the call's line comes first.

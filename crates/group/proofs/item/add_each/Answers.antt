@@ -5,9 +5,8 @@ use native.Mathlib.Omega.{arith}
 use lib.Ieee.{nan}
 use Rattle.std.specs.Prelude.{Err}
 use Rattle.steps.specs.Times.{max_entries}
-use Rattle.group.specs.Items.{item_label}
 use Rattle.group.proofs.Items.{room, built_as}
-use Rattle.group.proofs.Building.{none_added, one_more, none_refused, all_added}
+use Rattle.group.proofs.Building.{none_added, turn, all_added}
 use Rattle.group.proofs.item.add_each.Goals as goal
 
 pub loop-i-init : goal.loop-i-init
@@ -27,22 +26,15 @@ returns-in_err-at g c = λ places gives.
 
 pub returns-in_err-timeline : goal.returns-in_err-timeline
 returns-in_err-timeline g c = λ places gives.
-    let few = room _ (sym c.in_ok-too_many.ensures) in
-    let k : c.loop-i.i < max_entries = omega arith in
-    let e = gives _ _ k c.in_ok-at.ensures in
-    let at : c.in_ok-at.field-0 ≡ places c.loop-i.i = cc in
-    let text : c.text.result.now ≡ item_label c.loop-i.i = c.text.ensures ∙ c.new-label.ensures in
-    absurd (none_refused places c.args.durations.now _ _ nan (c.loop-i.invariant places gives) c.loop-i-test.true few _ (rw (text, at) at c.in_err-timeline.ensures.refusal))
+    let before = c.loop-i.invariant places gives in
+    let turned = turn places _ _ _ nan before c.loop-i-test.true (room _ (sym c.in_ok-too_many.ensures)) _ gives _ c.in_ok-at.ensures _ (c.text.ensures ∙ c.new-label.ensures) in
+    absurd (turned.none _ c.in_err-timeline.ensures.refusal)
 
 pub loop-i-preserved : goal.loop-i-preserved
 loop-i-preserved g c = λ places gives.
-    let few = room _ (sym c.in_ok-too_many.ensures) in
-    let k : c.loop-i.i < max_entries = omega arith in
-    let e = gives _ _ k c.in_ok-at.ensures in
-    let at : c.in_ok-at.field-0 ≡ places c.loop-i.i = cc in
-    let text : c.text.result.now ≡ item_label c.loop-i.i = c.text.ensures ∙ c.new-label.ensures in
-    let next = rw (text, at) at c.in_ok-timeline.ensures.timeline in
-    rw next (one_more places c.args.durations.now _ _ nan (c.loop-i.invariant places gives) c.loop-i-test.true few)
+    let before = c.loop-i.invariant places gives in
+    let turned = turn places _ _ _ nan before c.loop-i-test.true (room _ (sym c.in_ok-too_many.ensures)) _ gives _ c.in_ok-at.ensures _ (c.text.ensures ∙ c.new-label.ensures) in
+    rw c.in_ok-timeline.ensures.timeline turned.more
 
 pub returns : goal.returns
 returns g c = λ places gives.

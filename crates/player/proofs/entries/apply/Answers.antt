@@ -2,7 +2,7 @@ use mathlib.Core.Path.{◌≡◌, refl, sym, ap, ◌∙◌}
 use native.Mathlib.Omega.{arith}
 use lib.ListN.{length, length-map}
 use Rattle.steps.specs.Rows.{ruled}
-use Rattle.steps.proofs.Lists.{map_at}
+use Rattle.std.proofs.lemmas.List.{get_or-map}
 use Rattle.track.proofs.Marks.{no_entry, no_step}
 use Rattle.track.specs.Columns.{first_of}
 use Rattle.track.proofs.Columns.{length-first}
@@ -24,7 +24,7 @@ loop-i-preserved c =
     let es = first_of g.n g.spans.starts.now g.spans.durations.now g.marks.now in
     let long : length es ≡ g.n = length-first g.n g.spans.starts.now g.spans.durations.now g.marks.now v.room-s v.room-d v.room-m in
     let here = next-kept _ _ _ _ _ _ _ _ _ _ _ _ _ v (omega arith) in
-    let own = c.sent_to-s.ensures ∙ ap (ruled g.rule) (c.entry_at.ensures ∙ here) ∙ sym (map_at (ruled g.rule) es l.i no_entry no_step (omega (arith, long))) in
+    let own = c.sent_to-s.ensures ∙ ap (ruled g.rule) (c.entry_at.ensures ∙ here) ∙ sym (get_or-map (ruled g.rule) es l.i no_entry no_step (omega (arith, long))) in
     one_kept _ _ _ _ _ _ _ _ _ _ _ _ _ v (omega arith) _ own _ refl
 
 pub returns : goal.returns
