@@ -12,7 +12,7 @@ use lib.Ieee.{Float}
 use lib.ListN.{length, take, get_or, set, length-append}
 use lib.Seq.{take-suc, set_split}
 use Rattle.std.specs.Prelude.{Option, None, Some}
-use Rattle.core.specs.Option.{unwrap_or}
+use Rattle.std.specs.Option.{unwrap_or}
 use Rattle.float32.specs.Helpers.{to_bits}
 use Rattle.digits.specs.Digits.{decimal, written_count, Put}
 use Rattle.digits.proofs.Length.{length_digits}

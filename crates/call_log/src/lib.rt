@@ -28,28 +28,28 @@ pub const CALL: usize = 5;
 pub const LIST: usize = MOST_ENTRIES;
 
 // A call of a script: its byte and its f32.
-#[derive(Clone, Copy)]
+#[derive(Clone, Copy, Debug, PartialEq)]
 struct Call {
     byte: u8,
     x: f32,
 }
 
 // A log: how many lines of calls it has, and what plays, as the calls left it.
-#[derive(Clone, Copy)]
+#[derive(Clone, Copy, Debug)]
 pub struct Log {
     pub number: usize,
     pub track: Track,
 }
 
 // The answer of open: how long the line is, and the log, or why the sheet is refused, which has its line, too.
-#[derive(Clone, Copy)]
+#[derive(Clone, Copy, Debug)]
 pub struct Opened {
     pub len: usize,
     pub log: Result<Log, Refusal>,
 }
 
 // The answer of batch: how many bytes it used, how long the lines are, and the log.
-#[derive(Clone, Copy)]
+#[derive(Clone, Copy, Debug)]
 pub struct Batched {
     pub used: usize,
     pub len: usize,
@@ -57,7 +57,7 @@ pub struct Batched {
 }
 
 // The answer of run: the number of the last line, how many bytes it used, and how long the lines are.
-#[derive(Clone, Copy)]
+#[derive(Clone, Copy, Debug, PartialEq, Eq)]
 struct Ran {
     number: usize,
     used: usize,

@@ -38,7 +38,8 @@ pub(crate) fn accepted(out: &mut [u8], track: Track) -> usize
     line.at
 }
 
-// The line of a call, from an offset on.
+// The line of a call, from an offset on. Its refusal is the number that the line shows, 0 for none: an Option would be turned into that
+// here, and the caller has the number off the call's answer (`number_in`).
 pub(crate) fn called(
     out: &mut [u8],
     start: usize,

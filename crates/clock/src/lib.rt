@@ -2,7 +2,6 @@
 #![tactic(auto)]
 
 ghost use Rattle.std.specs.Prelude.{◌≡◌};
-ghost use Rattle.steps.specs.Times.{run_of};
 ghost use Rattle.clock.specs.Clocks.{letter_of, is_playing, is_completed, new_clock, with_state, scaled, cleared, started, play_state, played, play_rule, paused_state, paused, resumed_state, resumed, unended, seek_to, share_in, seek_state, sought, advances, advance_rule, next_elapsed, within, reach_of, fires, advanced_clock};
 
 use steps::{Rule, Run};
@@ -129,14 +128,13 @@ pub fn seek_to(total: f32, secs: f32) -> f32
 
 // The second that a share stands for, in `seek`.
 #[tactic(auto, unfolding(crate::specs::Clocks::share_in))]
-pub fn share_in(run: Run, share: f32) -> f32
-    ensures { result ≡ share_in run.base (run_of run.mode run.base) share }
+pub fn share_in(base: f32, total: f32, share: f32) -> f32
+    ensures { result ≡ share_in base total share }
 {
-    let total = run.total();
     let whole = if float32::is_finite(total) {
         total
     } else {
-        run.base
+        base
     };
     whole * float32::clamp(share, 0.0, 1.0)
 }

@@ -17,13 +17,14 @@ use Rattle.track.specs.Calls.{TrackCall, track_step}
 use Rattle.timeline.specs.declared.timeline.Timeline.{Timeline}
 use Rattle.timeline.specs.Placements.{named_start, resolve_start}
 use Rattle.timeline.specs.Calls.{Call, On, Out, added_at, with_track, step, after}
+use Rattle.std.proofs.lemmas.Bool.{and_parts}
 use Rattle.history.specs.Entries.{SameEntries}
 use Rattle.history.specs.Invariant.{Invariant}
 use Rattle.history.specs.Claim.{is_accepted, builds, AllBuild, keep_call, own_build}
 use Rattle.history.proofs.Spans.{same_refl, same_trans, lengths, named-starts, starts}
 use Rattle.timeline.proofs.Growing.{grows}
 use Rattle.history.proofs.Added.{grown-same, added-by, added-room}
-use Rattle.history.proofs.Calls.{call_by, and_left}
+use Rattle.history.proofs.Calls.{call_by}
 use Rattle.history.proofs.Stays.{Stays, stays}
 use Rattle.history.proofs.Kept.{step_kept}
 
@@ -79,7 +80,7 @@ module _ (t u : Timeline) (inv : Invariant t) (inv' : Invariant u) (s : SameEntr
       (λ name at duration b. unfold step in added-mirrored name (resolve_start t at) (resolve_start u at) duration (starts s at) (unfold step in b))
       (λ name target duration b. unfold step in added-mirrored name (named_start t target) (named_start u target) duration (named-starts s target) (unfold step in b))
       (λ mode b. unfold step track_step in record { taken = refl; same = record { labels = s.labels; spans = s.spans; mode = refl } })
-      (λ call p b. absurd (false≢true (sym p ∙ and_left (builds (On call)) (is_accepted t (On call)) b)))
+      (λ call p b. absurd (false≢true (sym p ∙ (and_parts (builds (On call)) (is_accepted t (On call)) b).0)))
 
 -- ---- the whole list
 -- the list bs builds on u a timeline of the entries and mode of z
@@ -98,5 +99,5 @@ own_builds t u (call ∷ calls) inv inv' s = go (builds call && is_accepted t ca
     go true e rest =
         let m = build-mirrored t u inv inv' s call e in
         let r = rest (step u call).timeline (step_kept u inv' call) m.same in
-        record { build = (and_left (builds call) (is_accepted t call) e, m.taken, r.build); same = r.same }
+        record { build = ((and_parts (builds call) (is_accepted t call) e).0, m.taken, r.build); same = r.same }
     go false e rest = rest u inv' (same_trans (other-same t inv call e) s)

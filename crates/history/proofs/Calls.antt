@@ -1,6 +1,6 @@
 -- A proof about every call, by what it does: it adds an entry, sets the loop mode, or is on what plays.
 use mathlib.Core.Path.{◌≡◌, refl}
-use mathlib.Core.Bool.{Bool, true, false, ◌&&◌, false≢true}
+use mathlib.Core.Bool.{false}
 use mathlib.Core.List.{List}
 use Prim.Native.Nat.{ℕ}
 use lib.Ieee.{Float}
@@ -30,12 +30,3 @@ call_by P add boxed named looping plays (On (Seek share r)) = plays (Seek share 
 call_by P add boxed named looping plays (On (SeekAbs secs r)) = plays (SeekAbs secs r) refl
 call_by P add boxed named looping plays (On (Update dt rs list r)) = plays (Update dt rs list r) refl
 call_by P add boxed named looping plays (On (Preview dt r)) = plays (Preview dt r) refl
-
--- both of two tests passed
-pub and_left : (a b : Bool) → (a && b) ≡ true → a ≡ true
-and_left true b e = refl
-and_left false b e = e
-
-pub and_right : (a b : Bool) → (a && b) ≡ true → b ≡ true
-and_right true b e = e
-and_right false b e = absurd (false≢true e)

@@ -6,6 +6,7 @@ use Prim.Native.Nat.{ℕ}
 use lib.Dec.{eqb}
 use lib.Ieee.{Float, lt, eq}
 use borrow.Author.Tests.{not-true}
+use Rattle.std.proofs.lemmas.Bool.{and_parts}
 use Rattle.float32.specs.Helpers.{zero_f}
 use Rattle.float32.proofs.Order.{le_of_eq, not-lt_of_le}
 use Rattle.refusal.specs.Refusal.{accepted}
@@ -25,7 +26,7 @@ use Rattle.history.proofs.Runs.{next_not_below}
 use Rattle.history.proofs.Spans.{bases}
 use Rattle.history.proofs.Clocks.{SoundClock}
 use Rattle.history.proofs.Kept.{empty-kept, after_kept}
-use Rattle.history.proofs.Calls.{call_by, and_left, and_right}
+use Rattle.history.proofs.Calls.{call_by}
 use Rattle.history.proofs.Built.{plays-same}
 use Rattle.history.proofs.Sending.{seek-room, seek_is, update_is}
 use Rattle.history.proofs.Synced.{Synced, sought-synced, advanced-synced}
@@ -44,11 +45,10 @@ module _ (t : Timeline) (inv : Invariant t) where
   updated-left : (dt : Float) (rs : List ℕ) (list : ℕ) (r : Room) → notes t (On (Update dt rs list r)) ≡ true → eq (track_base t.track) zero_f ≡ false → Synced (step t (On (Update dt rs list r))).timeline.track
   unfolding step track_step
   updated-left dt rs list r n z =
-      let a = and_left (is_accepted t (On (Update dt rs list r))) (is_playing (state_of t) && not (is_once t.track.looping)) n in
-      let w = and_right (is_accepted t (On (Update dt rs list r))) (is_playing (state_of t) && not (is_once t.track.looping)) n in
-      let o = not-true (is_once t.track.looping) (and_right (is_playing (state_of t)) (not (is_once t.track.looping)) w) in
-      subst (λ (x : TrackOut). Synced x.track) (sym (update_is t.track dt rs list r a))
-      (updated-synced t.track (record { elapsed = inv.elapsed; scale = inv.scale }) z o (and_left (is_playing (state_of t)) (not (is_once t.track.looping)) w) dt rs)
+      let a = and_parts (is_accepted t (On (Update dt rs list r))) (is_playing (state_of t) && not (is_once t.track.looping)) n in
+      let w = and_parts (is_playing (state_of t)) (not (is_once t.track.looping)) a.1 in
+      subst (λ (x : TrackOut). Synced x.track) (sym (update_is t.track dt rs list r a.0))
+      (updated-synced t.track (record { elapsed = inv.elapsed; scale = inv.scale }) z (not-true (is_once t.track.looping) w.1) w.0 dt rs)
 
   -- what a noting call leaves
   left-synced : (call : TrackCall) → notes t (On call) ≡ true → eq (track_base t.track) zero_f ≡ false → Synced (step t (On call)).timeline.track

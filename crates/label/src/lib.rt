@@ -9,7 +9,7 @@ pub const MAX_LABEL: usize = 24;
 
 // The text is the first len bytes; a length past MAX_LABEL counts as MAX_LABEL. Bytes past the text are no part of the label and
 // are kept zero. An array and a length: in paper 01 `Vec` and `String` become fixed arrays, and a label is Copy, which an
-// `ArrayVec` is not.
+// `ArrayVec` is not. No `==` is derived: it would compare the bytes past the text, too.
 #[derive(Clone, Copy, Debug)]
 pub struct Label {
     pub bytes: [u8; MAX_LABEL],

@@ -10,7 +10,7 @@ use lib.Dec.{eqb, ltb}
 use lib.ListN.{length, take, drop, length-take}
 use lib.Seq.{take-take, take-add, drop_at, length-take-le}
 use Rattle.std.specs.Prelude.{Option, None, Some}
-use Rattle.core.specs.Option.{unwrap_or}
+use Rattle.std.specs.Option.{unwrap_or}
 use Rattle.track.specs.declared.track.Track.{Track}
 use Rattle.words.specs.Words.{word}
 use Rattle.sheet.specs.Build.{reading_of}

@@ -37,14 +37,14 @@ use Rattle.track.specs.Columns.{track_of}
 use Rattle.track.specs.Updates.{ticks, newly_done, Advance}
 use Rattle.track.specs.Calls.{TrackOut}
 use Rattle.track.specs.Answers.{Answer, reached_from, UpdatesBy}
-use Rattle.track.proofs.Columns.{own, roomy, completed}
+use Rattle.track.proofs.Columns.{own, completed}
 use Rattle.track.proofs.Outcomes.{outnumbered, finished, listed-within, listed-over}
 use Rattle.player.specs.declared.engine.Player.{Player}
 use Rattle.player.specs.declared.engine.Updated.{Updated}
 use Rattle.player.specs.Answered.{playing_in, at_clock, answer_of, answer_in, ticked_to, synced_to, UpdatesTo}
 use Rattle.player.specs.Loops.{first_in, ticks_in, done_in, SentIn, SentTo}
 use Rattle.player.proofs.Checks.{same_slices, same_player}
-use Rattle.player.proofs.Loops.{Left, same_columns, applied, ticked-own}
+use Rattle.player.proofs.Loops.{few, Left, same_columns, applied, ticked-own}
 
 -- in Once the run is the base
 pub once_reach : (mode : Loop) (base next : Float) → is_once mode ≡ true → within base next ≡ reach_of mode base next
@@ -129,9 +129,9 @@ module _ (p : Player) where
     -- the ends that are walked are the track's
     ends-own : (sp : Spans) → ends sp ≡ first_ends n p.spans → first_ends most_entries sp ≡ ends_in (min n most_entries) p.spans.starts.now p.spans.durations.now
     ends-own sp es =
-        let few = (roomy p.head p.spans.starts.now p.spans.durations.now p.marks.now n all).3 in
-        let most-own : min n most_entries ≡ n = omega (arith, few) in
-        ap (take most_entries) es ∙ take_all most_entries (first_ends n p.spans) (omega (arith, few, length-take n (ends p.spans))) ∙ rw most-own
+        let most = few p all in
+        let most-own : min n most_entries ≡ n = omega (arith, most) in
+        ap (take most_entries) es ∙ take_all most_entries (first_ends n p.spans) (omega (arith, most, length-take n (ends p.spans))) ∙ rw most-own
 
     module _ (mode : Loop) (em : mode ≡ p.head.looping) (eb : base ≡ track_base t) (sp : Spans) (es : ends sp ≡ first_ends n p.spans) {l₀ l : List ℕ} {w : Option ℕ}
         (x : Listed (empty_at_nan p.head.clock.elapsed next (completions_in mode (first_ends most_entries sp) base p.head.clock.elapsed next)) l₀ l w) where

@@ -15,6 +15,7 @@ use Rattle.steps.specs.declared.Step.{Step}
 use Rattle.steps.specs.declared.Stepped.{Stepped}
 use Rattle.std.proofs.lemmas.List.{get_or-map}
 use Rattle.steps.proofs.Lists.{front, front-more, front_at, front-all}
+use Rattle.completions.specs.Columns.{most_entries}
 use Rattle.completions.specs.declared.Spans.{Spans}
 use Rattle.clock.specs.declared.Clock.{Clock}
 use Rattle.track.specs.declared.rows.Rows.{Rows}
@@ -24,11 +25,11 @@ use Rattle.track.specs.Tracks.{live, rows_of, done_of, moved, Sent}
 use Rattle.track.specs.Columns.{entry_of, first_of, track_of, with_clock_at}
 use Rattle.track.specs.Updates.{ticks}
 use Rattle.track.proofs.Marks.{no_entry, no_step}
-use Rattle.track.proofs.Columns.{first_at, own, put}
+use Rattle.track.proofs.Columns.{first_at, own, put, roomy}
 use Rattle.track.proofs.Ticks.{length-ticks, turn_at}
 use Rattle.player.specs.declared.engine.Player.{Player}
 use Rattle.player.specs.Answered.{playing_in, SameColumns}
-use Rattle.player.specs.Loops.{entry_at, first_in, ticks_in, SentIn, SentTo}
+use Rattle.player.specs.Loops.{Reads, entry_at, first_in, ticks_in, SentIn, SentTo}
 
 -- each step's part of the three row slices
 abbrev kinds_of : List Stepped → List ℕ
@@ -177,6 +178,15 @@ same_columns {p} {q} {c} l =
 module _ (p : Player) {n : ℕ} (all : n ≡ length (live (playing_in p))) where
   abbrev t : Track
   t = playing_in p
+
+  -- the loops may read n entries, and a byte counts them
+  pub reads : Reads n p.spans p.marks.now
+  reads =
+      let wide = roomy p.head p.spans.starts.now p.spans.durations.now p.marks.now n all in
+      (wide.0, wide.1, wide.2)
+
+  pub few : n ≤ most_entries
+  few = (roomy p.head p.spans.starts.now p.spans.durations.now p.marks.now n all).3
 
   module _ {q : Player} {c : Clock} {r s : Rows} (l : Left p q c) where
     -- steps for every entry have been sent

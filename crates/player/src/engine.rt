@@ -1,9 +1,6 @@
 // The clocked calls of timeline.rs on what plays in three lent columns. Each leaves its clock in the playhead; a refused one has moved
 // nothing.
 ghost use Rattle.std.specs.Prelude.{◌≡◌, [], ◌≤◌, length};
-ghost use mathlib.Core.List.{foldl};
-ghost use Rattle.float32.specs.Helpers.{zero_f, max_f};
-ghost use Rattle.completions.specs.Columns.{first_ends};
 ghost use Rattle.clock.specs.Clocks.{advanced_clock, stayed_clock};
 ghost use Rattle.track.specs.Tracks.{live, track_base};
 ghost use Rattle.track.specs.Calls.{Play, Reset, Seek, SeekAbs, updated};
@@ -18,7 +15,7 @@ use refusal::Refusal;
 use steps::{Rule, Run, Step};
 use track::checks::check_replies;
 use track::rows::Rows;
-use track::track::{Playhead, Secs, Share};
+use track::track::{Columns, Playhead, Secs, Share};
 
 // What plays in lent columns: the playhead, where the entries stand, and their marks.
 #[derive(Drop)]
@@ -37,13 +34,15 @@ pub struct Updated {
 }
 
 impl Player<'_, '_> {
-    // How the first n entries play: the loop mode and the base.
-    fn run(&self, n: usize) -> Run
-        ensures { (result.mode ≡ self.now.head.looping) × (result.base ≡ foldl max_f zero_f (first_ends n self.now.spans)) }
+    // The player of a track's columns. What its calls leave stands in it: the playhead, and the marks.
+    pub fn of(columns: &mut Columns) -> Player<'_, '_>
+        ensures { (result.head ≡ columns.old.head) × (result.spans.starts.now ≡ columns.old.held.starts) × (result.spans.durations.now ≡ columns.old.held.durations) × (result.marks.now ≡ columns.old.marks) }
     {
-        Run {
-            mode: self.head.looping,
-            base: completions::base(self.spans.first(n)),
+        let Columns { head, held, marks } = columns;
+        Player {
+            head: *head,
+            spans: held.spans(),
+            marks,
         }
     }
 
@@ -53,7 +52,7 @@ impl Player<'_, '_> {
     {
         let n = self.head.entries(self.spans, self.marks.len());
         rows.check(n)?;
-        let run = self.run(n);
+        let run = self.head.run(n, self.spans);
         let rule = self.head.clock.play_rule(run);
         apply(n, rule, self.spans, self.marks, rows);
         self.head = self.head.with_clock(self.head.clock.played(run.base));
@@ -77,9 +76,9 @@ impl Player<'_, '_> {
     {
         let n = self.head.entries(self.spans, self.marks.len());
         rows.check(n)?;
-        let run = self.run(n);
+        let run = self.head.run(n, self.spans);
         let total = run.total();
-        let elapsed = clock::seek_to(total, clock::share_in(run, to.0));
+        let elapsed = clock::seek_to(total, clock::share_in(run.base, total, to.0));
         let rule = Rule::Sync(run.local_time(elapsed));
         apply(n, rule, self.spans, self.marks, rows);
         self.head = self.head.with_clock(self.head.clock.sought(total, elapsed));
@@ -93,7 +92,7 @@ impl Player<'_, '_> {
     {
         let n = self.head.entries(self.spans, self.marks.len());
         rows.check(n)?;
-        let run = self.run(n);
+        let run = self.head.run(n, self.spans);
         let total = run.total();
         let elapsed = clock::seek_to(total, to.0);
         let rule = Rule::Sync(run.local_time(elapsed));
@@ -116,13 +115,13 @@ impl Player<'_, '_> {
         let n = self.head.entries(self.spans, self.marks.len());
         rows.check(n)?;
         check_replies(replies, n)?;
-        let run = self.run(n);
+        let run = self.head.run(n, self.spans);
         if !self.head.clock.advances(run.base) {
             apply(n, Rule::Keep, self.spans, self.marks, rows);
             return Ok(self.stay());
         }
         let next = self.head.clock.next_elapsed(dt);
-        if tween::loop_mode::is_once(run.mode) {
+        if run.mode.is_once() {
             return self.tick_to(n, run.base, next, replies, list, rows);
         }
         self.sync_to(n, run, next, list, rows)
@@ -215,11 +214,11 @@ impl Player<'_, '_> {
         requires { (n ≡ length (live (playing_in self.old))) × Writes n rows.old }
         ensures { SentIn (updated (playing_in self.old) dt []).rows rows.old rows.new }
     {
-        let run = self.run(n);
+        let run = self.head.run(n, self.spans);
         let next = self.head.clock.next_elapsed(dt);
         let to = clock::reach_of(run, next);
         let advances = self.head.clock.advances(run.base);
-        let once = tween::loop_mode::is_once(run.mode);
+        let once = run.mode.is_once();
         let ticks = advances & once;
         if ticks {
             let step = Step {

@@ -21,7 +21,7 @@ pub enum PlaybackState {
 }
 
 // What is reported: of what, how far it has come, the seconds so far, how long it is if that is finite, and its state.
-#[derive(Clone, Copy)]
+#[derive(Clone, Copy, Debug, PartialEq)]
 pub struct AnimationIntrospection {
     pub kind: AnimationKind,
     pub progress: f32,

@@ -40,7 +40,7 @@ pub enum At {
 }
 
 // What plays, and what its entries are called: a label for each slot of the track's array, since the engine reads no labels.
-#[derive(Clone, Copy)]
+#[derive(Clone, Copy, Debug)]
 pub struct Timeline {
     pub track: Track,
     pub labels: [Label; MAX_ENTRIES],

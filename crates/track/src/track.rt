@@ -1,6 +1,8 @@
 // What plays (timeline.rs; paper 01, part 4): a track by value, and the way from it to three columns of numbers and back.
 ghost use Rattle.std.specs.Prelude.{◌≡◌, length};
-ghost use Rattle.steps.specs.Times.{run_of};
+ghost use mathlib.Core.List.{foldl};
+ghost use Rattle.float32.specs.Helpers.{zero_f, max_f};
+ghost use Rattle.completions.specs.Columns.{first_ends};
 ghost use Rattle.clock.specs.Clocks.{scaled, paused, resumed};
 ghost use Rattle.track.specs.Tracks.{empty_track, live, with_marks, track_base, track_run, progress_in, progress_of};
 ghost use Rattle.track.specs.Columns.{with_clock_at, with_mode_at, entries_in, track_of, laid_over};
@@ -21,8 +23,9 @@ pub struct Secs(pub f32);
 pub struct Share(pub f32);
 
 // What plays. The entries that count are the first count of the array, or all of it: paper 01 has fixed arrays in place of `Vec`, and
-// a track is `Copy`. Flat, with no `Playhead` in it, as the Rust's `Timeline` is: the definitions of the calls speak of its fields.
-#[derive(Clone, Copy)]
+// a track is `Copy`. Flat, with no `Playhead` in it, as the Rust's `Timeline` is, whose shape paper 01 keeps (docs/DECISIONS.md, "the
+// struct's shape stays").
+#[derive(Clone, Copy, Debug)]
 pub struct Track {
     pub count: usize,
     pub entries: [Entry; MAX_ENTRIES],
@@ -31,7 +34,7 @@ pub struct Track {
 }
 
 // What plays, but for its entries, which stand in columns: how many of them count, the clock and the loop mode.
-#[derive(Clone, Copy)]
+#[derive(Clone, Copy, Debug, PartialEq)]
 pub struct Playhead {
     pub count: usize,
     pub clock: Clock,
@@ -86,25 +89,32 @@ impl Playhead {
     {
         self.count.min(MOST_ENTRIES).min(spans.len()).min(marks)
     }
+
+    // How the first n entries play: the loop mode and the base.
+    pub fn run(self, n: usize, spans: Spans<'_>) -> Run
+        ensures { (result.mode ≡ self.looping) × (result.base ≡ foldl max_f zero_f (first_ends n spans.entry)) }
+    {
+        Run {
+            mode: self.looping,
+            base: completions::base(spans.first(n)),
+        }
+    }
 }
 
 // The queries, over the columns.
 impl Playhead {
-    // How they play: the loop mode and the base.
-    fn run(self, spans: Spans<'_>, marks: &[bool]) -> Run
+    // How all that count play.
+    fn whole_run(self, spans: Spans<'_>, marks: &[bool]) -> Run
         ensures { (result.mode ≡ self.looping) × (result.base ≡ track_base (lent_track self spans.entry marks)) }
     {
-        Run {
-            mode: self.looping,
-            base: completions::base(spans.first(self.entries(spans, marks.len()))),
-        }
+        self.run(self.entries(spans, marks.len()), spans)
     }
 
     // The base: `duration`.
     pub fn duration(self, spans: Spans<'_>, marks: &[bool]) -> f32
         ensures { result ≡ track_base (lent_track self spans.entry marks) }
     {
-        self.run(spans, marks).base
+        self.whole_run(spans, marks).base
     }
 
     // The run: `playback_duration`.
@@ -112,7 +122,7 @@ impl Playhead {
     pub fn playback_duration(self, spans: Spans<'_>, marks: &[bool]) -> f32
         ensures { result ≡ track_run (lent_track self spans.entry marks) }
     {
-        self.run(spans, marks).total()
+        self.whole_run(spans, marks).total()
     }
 
     // `progress`
@@ -120,16 +130,16 @@ impl Playhead {
     pub fn progress(self, spans: Spans<'_>, marks: &[bool]) -> f32
         ensures { result ≡ progress_of (lent_track self spans.entry marks) }
     {
-        progress_in(self.run(spans, marks), self.clock.elapsed)
+        let run = self.whole_run(spans, marks);
+        progress_in(run, run.total(), self.clock.elapsed)
     }
 }
 
 // `progress` at an elapsed time.
 #[tactic(auto, unfolding(crate::specs::Tracks::progress_in))]
-pub fn progress_in(run: Run, elapsed: f32) -> f32
-    ensures { result ≡ progress_in run.mode run.base (run_of run.mode run.base) elapsed }
+pub fn progress_in(run: Run, total: f32, elapsed: f32) -> f32
+    ensures { result ≡ progress_in run.mode run.base total elapsed }
 {
-    let total = run.total();
     if total == 0.0 {
         return 1.0;
     }
@@ -253,7 +263,7 @@ impl Track {
 }
 
 // The columns of a track by value, and the playhead to play them with: the way to the engine for who has no columns to lend.
-#[derive(Clone, Copy)]
+#[derive(Clone, Copy, Debug)]
 pub struct Columns {
     pub head: Playhead,
     pub held: SpanArrays<MAX_ENTRIES>,

@@ -61,6 +61,13 @@ impl Loop {
             Loop::Once | Loop::Forever | Loop::PingPong => 0,
         }
     }
+
+    // Whether it plays once.
+    pub fn is_once(self) -> bool
+        ensures { result ≡ is_once self }
+    {
+        matches!(self, Loop::Once)
+    }
 }
 
 // The number of passes that a loop number stands for: 0 counts as 1.
@@ -68,11 +75,4 @@ pub fn passes(n: u32) -> u32
     ensures { result ≡ passes n }
 {
     n.max(1)
-}
-
-// Whether the mode plays once.
-pub fn is_once(mode: Loop) -> bool
-    ensures { result ≡ is_once mode }
-{
-    matches!(mode, Loop::Once)
 }

@@ -20,4 +20,4 @@ returns c =
     let r = c.args.rows.now in
     let run = c.run-run.ensures in
     let eb = base-own p c.entries-n.ensures run.1 in
-    moves-on p c.entries-n.ensures r c.check.ensures _ (share-sent (playing_in p) (room_in r) eb c.args.to.0 (rw run.0 at c.total-total.ensures) (rw (← c.total-total.ensures) at c.share_in.ensures) c.seek_to-elapsed.ensures (rw run.0 at c.local_time.ensures) c.sought.ensures) (search rules) (record { head = c.with_clock-self.ensures; spans = refl; marks = refl }) c.apply.ensures
+    moves-on p c.entries-n.ensures r c.check.ensures _ (share-sent (playing_in p) (room_in r) eb c.args.to.0 (rw run.0 at c.total-total.ensures) c.share_in.ensures c.seek_to-elapsed.ensures (rw run.0 at c.local_time.ensures) c.sought.ensures) (search rules) (record { head = c.with_clock-self.ensures; spans = refl; marks = refl }) c.apply.ensures

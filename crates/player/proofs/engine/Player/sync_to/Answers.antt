@@ -1,7 +1,7 @@
 use mathlib.Core.Path.{◌≡◌, refl}
 use Rattle.std.proofs.Common.{arith, Some, None, Err}
 use Rattle.refusal.specs.declared.Refusal.TheVariants.{ListTooShort}
-use Rattle.track.proofs.Columns.{roomy}
+use Rattle.player.proofs.Loops.{reads}
 use Rattle.player.proofs.Answers.{left-at, sent-at, sync-over, sync-told}
 use Rattle.player.proofs.engine.Player.sync_to.Goals as goal
 
@@ -12,10 +12,7 @@ returns-in_err-listed c =
     sync-over c.args.self.now c.requires.0 c.args.run.base c.args.next _ c.requires.2 c.requires.3 c.first.result c.first.ensures c.between-found.ensures over answer
 
 pub apply-requires : goal.apply-requires
-apply-requires c =
-    let p = c.args.self.now in
-    let wide = roomy p.head p.spans.starts.now p.spans.durations.now p.marks.now c.args.n c.requires.0 in
-    ((wide.0, wide.1, wide.2), c.requires.1)
+apply-requires c = (reads c.args.self.now c.requires.0, c.requires.1)
 
 pub returns : goal.returns
 returns c =

@@ -1,14 +1,11 @@
 use mathlib.Core.Path.{refl, sym, ◌∙◌}
 use borrow.Author.Tests.{ltb-false}
-use Rattle.track.proofs.Columns.{roomy}
+use Rattle.player.proofs.Loops.{reads, few}
 use Rattle.player.proofs.Answers.{left-at, sent-at, tick-over, tick-told}
 use Rattle.player.proofs.engine.Player.tick_to.Goals as goal
 
 pub outnumber-requires : goal.outnumber-requires
-outnumber-requires c =
-    let p = c.args.self.now in
-    let wide = roomy p.head p.spans.starts.now p.spans.durations.now p.marks.now c.args.n c.requires.0 in
-    ((wide.0, wide.1, wide.2), c.requires.2)
+outnumber-requires c = (reads c.args.self.now c.requires.0, c.requires.2)
 
 pub returns-then-outnumber : goal.returns-then-outnumber
 returns-then-outnumber c =
@@ -19,8 +16,7 @@ pub tick-listed-requires : goal.tick-listed-requires
 tick-listed-requires c =
     let p = c.args.self.now in
     let pre = c.requires in
-    let wide = roomy p.head p.spans.starts.now p.spans.durations.now p.marks.now c.args.n pre.0 in
-    record { in_bounds = ((wide.0, wide.1, wide.2), pre.1, wide.3, pre.2); room = ltb-false _ _ (sym c.outnumber.ensures ∙ c.if-outnumber.false) }
+    record { in_bounds = (reads p pre.0, pre.1, few p pre.0, pre.2); room = ltb-false _ _ (sym c.outnumber.ensures ∙ c.if-outnumber.false) }
 
 pub returns : goal.returns
 returns c =
