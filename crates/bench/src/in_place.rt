@@ -18,15 +18,11 @@ pub(crate) fn come_to<L: FnMut(&Rows<'_>)>(
     requires { L.IsAlwaysCallable look }
 {
     let base = t.duration();
-    let c = &mut Columns::of(t.track);
-    let spans = c.held.spans();
+    let columns = &mut Columns::of(t.track);
     let mut room = Room::new();
     let mut lent = room.lend();
-    let mut player = Player {
-        head: started(c.head, job, spans),
-        spans,
-        marks: &mut c.marks,
-    };
+    let mut player = Player::of(columns);
+    player.head = started(player.head, job, player.spans);
     match job {
         Job::SeekAbsOnce | Job::SeekAbsForever => {
             let seek = |player: &mut Player<'_, '_>, share: f32, rows: &mut Rows<'_>| {

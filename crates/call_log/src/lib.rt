@@ -139,11 +139,7 @@ pub fn batch(log: Option<Log>, bytes: &[u8], ended: bool, out: &mut [u8]) -> Bat
         };
     };
     let columns = &mut Columns::of(log.track);
-    let mut player = Player {
-        head: columns.head,
-        spans: columns.held.spans(),
-        marks: &mut columns.marks,
-    };
+    let mut player = Player::of(columns);
     let ran = run(log.number, &mut player, bytes, ended, out);
     let gathered = log.track.gather(player.head, player.spans, player.marks);
     let track = Track {

@@ -17,7 +17,9 @@ use track::checks::check_replies;
 use track::rows::Rows;
 use track::track::{Columns, Playhead, Secs, Share};
 
-// What plays in lent columns: the playhead, where the entries stand, and their marks.
+// What plays in lent columns: the playhead, where the entries stand, and their marks. How many of them count (n) is no field, since
+// callers set the head. Nor has a type the loops' `Reads n` and `Writes n`: over a struct of the marks and rows of a call each contract
+// would have to say by `ghost_name` which slices it holds, where now the arguments say it of the marks.
 #[derive(Drop)]
 pub struct Player<'s, 'm> {
     pub head: Playhead,
@@ -102,7 +104,7 @@ impl Player<'_, '_> {
     }
 
     // `update`, with each leaf's reply. The list takes the numbers of the entries that completed. Replies, list and rows are lent one by
-    // one: play and the seeks take the rows alone.
+    // one: `Timeline::update` and `script::make` have them so, and would have to make a struct for each call.
     pub fn update(
         &mut self,
         dt: f32,

@@ -1,6 +1,6 @@
-// The loops over the first n entries of lent columns: what every entry is sent, and the mark that it leaves. By index: columns
-// and row slices are gone over in step. They take the columns and not the player: so their types say that the playhead and the
-// spans stay, which over `&mut Player` each contract would have to say.
+// The loops over the first n entries of lent columns: what every entry is sent, and the mark that it leaves. By index:
+// after an `iter_mut` a proof does not know what was written (so at the loops of crate track). They take the columns and not the
+// player: so their types say that the playhead and the spans stay, which over `&mut Player` each contract would have to say.
 ghost use Rattle.std.specs.Prelude.{◌≡◌, false, not, ◌&&◌, [], map, ◌+◌, ◌<◌, ◌≤◌, ltb, length, get_or, set};
 ghost use Rattle.std.proofs.lemmas.List.Edits.{sets};
 ghost use Rattle.steps.specs.Rows.{ruled};

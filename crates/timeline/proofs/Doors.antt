@@ -52,6 +52,11 @@ pub seated : (t : Timeline) → length t.track.entries ≡ max_entries → {h : 
     → {ss ds : List Float} → ss ≡ s → ds ≡ d → track_of h ss ds m ≡ trimmed t.track
 seated t l w es ed = rw (es, ed) (all_laid t.track l refl w.track)
 
+-- and a player of these columns plays it
+pub plays-all : (t : Timeline) → length t.track.entries ≡ max_entries → {h : Playhead} {s₀ s d₀ d : List Float} {m₀ m : List Bool} → LaysOut t.track (take max_entries (live t.track)) h s₀ s d₀ d m₀ m
+    → (p : Player) → (p.head ≡ h) × (p.spans.starts.now ≡ s) × (p.spans.durations.now ≡ d) × (p.marks.now ≡ m) → playing_in p ≡ trimmed t.track
+plays-all t l w p e = rw (e.0, e.3) (seated t l w e.1 e.2)
+
 -- the call is made on what the columns hold
 module _ (t : Timeline) (call : TrackCall) {held : Track} (all : held ≡ trimmed t.track) where
   abbrev in-columns : TrackOut
@@ -104,9 +109,9 @@ module _ (t : Timeline) (call : TrackCall) {held : Track} (all : held ≡ trimme
 
 -- the player p makes the call in columns that hold the track, and leaves q
 module _ (t : Timeline) (l : length t.track.entries ≡ max_entries) (call : TrackCall) {h : Playhead} {s₀ s d₀ d : List Float} {m₀ m : List Bool}
-    (w : LaysOut t.track (take max_entries (live t.track)) h s₀ s d₀ d m₀ m) (p q : Player) (eh : p.head ≡ h) (es : p.spans.starts.now ≡ s) (ed : p.spans.durations.now ≡ d) (em : p.marks.now ≡ m) (kept : SameColumns p q) where
+    (w : LaysOut t.track (take max_entries (live t.track)) h s₀ s d₀ d m₀ m) (p q : Player) (of : (p.head ≡ h) × (p.spans.starts.now ≡ s) × (p.spans.durations.now ≡ d) × (p.marks.now ≡ m)) (kept : SameColumns p q) where
   held_by : playing_in p ≡ trimmed t.track
-  held_by = rw (eh, em) (seated t l w es ed)
+  held_by = plays-all t l w p of
 
   few : length (live t.track) ≤ max_entries
   few = omega (arith, l, length-take t.track.count t.track.entries)
@@ -115,7 +120,7 @@ module _ (t : Timeline) (l : length t.track.entries ≡ max_entries) (call : Tra
   track-of : playing_in q ≡ (track_step (playing_in p) call).track → with_marks t.track q.head.clock q.marks.now ≡ (track_step t.track call).track
   track-of e =
       sym (marks-back t.track max_entries few (omega (arith, few)) w q.head.clock q.marks.now)
-      ∙ puts_back t.track call (sym (left_in p q eh es ed kept) ∙ e ∙ answers t call held_by (λ (o : TrackOut). o.track))
+      ∙ puts_back t.track call (sym (left_in p q of.0 of.1 of.2 kept) ∙ e ∙ answers t call held_by (λ (o : TrackOut). o.track))
 
   module _ {k₀ k : List ℕ} {a₀ a p₀ p' : List Float} {u : Timeline} (eu : u ≡ with_track t (with_marks t.track q.head.clock q.marks.now)) where
     -- play, reset and the seeks

@@ -62,10 +62,6 @@ MovesOn t call r rows =
 abbrev pub Course : Type 1
 Course = MutBor Player → MutBor Rows → Result Unit Refusal → MutBor Player → MutBor Rows → Type 0
 
--- it leaves the player's marks in the slice where they were
-abbrev pub Keeps : Course → Type 0
-Keeps post = (p : MutBor Player) (r : MutBor Rows) (x : Result Unit Refusal) (q : MutBor Player) (s : MutBor Rows) → post p r x q s → q.now.marks.ghost_name ≡ p.now.marks.ghost_name
-
 -- it is this call of the player
 abbrev pub Makes : Course → (Room → TrackCall) → Type 0
 Makes post call = (p : MutBor Player) (r : MutBor Rows) (x : Result Unit Refusal) (q : MutBor Player) (s : MutBor Rows) → post p r x q s → MovesInPlace p.now call x q.now r.now s.now

@@ -10,7 +10,7 @@ ghost use Rattle.track.specs.Tracks.{live, with_marks, track_base, track_run, pr
 ghost use Rattle.track.specs.Calls.{Room, TrackCall, Looping, SetTimeScale, Play, Pause, Resume, Reset, Seek, SeekAbs, with_clock};
 ghost use Rattle.timeline.specs.Placements.{empty, live_labels, start_found, named_start, resolve_start, grown};
 ghost use Rattle.timeline.specs.Calls.{Add, AddBoxed, AddAtLabel, On, added_at, with_track, step};
-ghost use Rattle.timeline.specs.Answers.{Adds, Keeps, Makes, Moves, Updates, Shows};
+ghost use Rattle.timeline.specs.Answers.{Adds, Makes, Moves, Updates, Shows};
 ghost use Rattle.timeline.specs.Introspections.{introspected};
 
 use crate::introspection::{AnimationIntrospection, AnimationKind};
@@ -287,19 +287,12 @@ impl Timeline {
         make: F,
     ) -> Result<Timeline, Refusal>
         requires callable { F.IsAlwaysCallable make }
-        requires keeps { Keeps (F.post make) }
         ensures { (call : Room → TrackCall) → Makes (F.post make) call → Moves self call result rows }
     {
-        let c = &mut Columns::of(self.track);
-        let mut player = Player {
-            head: c.head,
-            spans: c.held.spans(),
-            marks: &mut c.marks,
-        };
-        let made = make(&mut player, rows);
-        let clock = player.head.clock;
-        made?;
-        Ok(self.left(clock, &c.marks))
+        let columns = &mut Columns::of(self.track);
+        let mut player = Player::of(columns);
+        make(&mut player, rows)?;
+        Ok(self.left(player.head.clock, player.marks))
     }
 
     // What is left of it after a call in columns that its track was laid out in: the clock and the marks are those of there.
@@ -327,15 +320,10 @@ impl Timeline {
     ) -> Result<(Updated, Timeline), Refusal>
         ensures { Updates self dt replies result list rows }
     {
-        let c = &mut Columns::of(self.track);
-        let mut player = Player {
-            head: c.head,
-            spans: c.held.spans(),
-            marks: &mut c.marks,
-        };
-        let made = player.update(dt, replies, list, rows);
-        let clock = player.head.clock;
-        Ok((made?, self.left(clock, &c.marks)))
+        let columns = &mut Columns::of(self.track);
+        let mut player = Player::of(columns);
+        let made = player.update(dt, replies, list, rows)?;
+        Ok((made, self.left(player.head.clock, player.marks)))
     }
 
     // The rows that such an update would write, with room enough; the timeline stays.

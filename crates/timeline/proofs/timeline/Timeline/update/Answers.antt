@@ -1,10 +1,10 @@
 -- `update` is the step that `Update` says.
-use mathlib.Core.Path.{◌≡◌, refl}
+use mathlib.Core.Path.{◌≡◌}
 use Rattle.std.proofs.Common.{rules, Ok, Err}
 use lib.ListN.{length}
 use Rattle.steps.specs.Times.{max_entries}
 use Rattle.track.specs.Calls.{Update}
-use Rattle.timeline.proofs.Doors.{seated, door-updates, door-stays}
+use Rattle.timeline.proofs.Doors.{plays-all, door-updates, door-stays}
 use Rattle.timeline.proofs.timeline.Timeline.update.Goals as goal
 
 pub returns-in_err-made : goal.returns-in_err-made
@@ -12,16 +12,16 @@ returns-in_err-made c =
     let t = c.args.self in
     let own = c.well_formed.0.0 in
     let long : length t.track.entries ≡ max_entries = search rules in
-    let why : c.update-made.result ≡ Err c.in_err-made.field-0.0 = search rules in
+    let why : c.update.result ≡ Err c.in_err-made.field-0.0 = search rules in
     let answer : c.from_residual.result ≡ Err c.in_err-made.field-0.0 = search rules in
-    let x = c.update-made.ensures in
-    (x.1, rw answer (door-stays t (Update _ _ _ _) (seated t long c.of.ensures c.spans.ensures.0 c.spans.ensures.1) (rw why at x.2)))
+    let x = c.update.ensures in
+    (x.1, rw answer (door-stays t (Update _ _ _ _) (plays-all t long c.of.ensures c.of-player.result c.of-player.ensures) (rw why at x.2)))
 
 pub returns : goal.returns
 returns c =
     let t = c.args.self in
     let own = c.well_formed.0.0 in
     let long : length t.track.entries ≡ max_entries = search rules in
-    let passes : c.update-made.result ≡ Ok c.in_ok-made.field-0 = search rules in
-    let x = c.update-made.ensures in
-    (x.1, door-updates t long (Update _ _ _ _) c.of.ensures _ _ refl c.spans.ensures.0 c.spans.ensures.1 refl x.0 c.left.ensures (rw passes at x.2))
+    let passes : c.update.result ≡ Ok c.in_ok-made.made = search rules in
+    let x = c.update.ensures in
+    (x.1, door-updates t long (Update _ _ _ _) c.of.ensures _ _ c.of-player.ensures x.0 c.left.ensures (rw passes at x.2))
