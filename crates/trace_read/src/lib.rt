@@ -38,7 +38,7 @@ pub enum Call<'a> {
     Sequence(u8),
 }
 
-// A call that moves what plays.
+// A call that moves what plays: data, and no table of functions, since both matches over it name each call (trace_places).
 #[derive(Clone, Copy, Debug, PartialEq)]
 pub enum Move {
     Play,
