@@ -6,7 +6,7 @@ use std::io::Stdin;
 use streams::read_full;
 
 // What there is of a record that the input does not have whole.
-#[derive(Clone, Copy)]
+#[derive(Clone, Copy, Debug, PartialEq, Eq)]
 pub struct Cut<'a>(pub &'a [u8]);
 
 // Answers each record by a case of this name, to the end of the input, or to a record that is cut.
@@ -23,8 +23,8 @@ pub fn each_record<F: FnMut(&mut Sink, Result<&[u8], Cut<'_>>)>(
         return;
     };
     let mut sink = Sink::new(rt.stdout(), form);
-    // A proved loop has to end, and nothing says that the input does: so it ends at a number of records that no run reaches;
-    // `rt.forever()` would need leave to wait.
+    // A proved loop has to end, and nothing says that the input does: so it ends at a number of records that no run reaches. With
+    // `rt.forever()` a program would count as one with threads (`threads=` in the check's last line).
     for number in 1..usize::MAX {
         let Some(record) = read_record(&mut stdin, room) else {
             return;

@@ -2,7 +2,7 @@
 use group::group::AnimationGroup;
 use group::sequence::Sequence;
 use group::stagger::stagger;
-use refusal::{ACCEPTED, Refusal, number_if, number_in};
+use refusal::Refusal;
 use trace_places::run::Run;
 use trace_read::{Builder, Cursor, Cut, Item, ROWS};
 
@@ -23,7 +23,7 @@ pub(crate) fn building(
         Builder::GroupSequence => AnimationGroup::sequence(durations).timeline(),
         Builder::GroupStagger(pattern) => AnimationGroup::stagger(durations, pattern).timeline(),
     };
-    run.replace(built.panel, number_if(built.refusal));
+    run.replace(built.panel, built.refusal);
     trace_lines::entries(run.sink, &run.timeline);
     Ok(())
 }
@@ -31,14 +31,14 @@ pub(crate) fn building(
 // Sequence, of n items. Of each its refusal is shown, and the cursor after it: they are kept, since the call's line comes first.
 pub(crate) fn sequencing(run: &mut Run<'_>, cursor: &mut Cursor<'_>, n: u8) -> Result<(), Cut> {
     let mut sequence = Sequence::new();
-    let mut items = [(0, 0.0); ITEMS];
+    let mut items = [(None, 0.0); ITEMS];
     let n = usize::from(n);
     for left in items.iter_mut().take(n) {
         let answer = add(sequence, cursor.item()?);
         sequence = answer.unwrap_or(sequence);
-        *left = (number_in(&answer), sequence.cursor());
+        *left = (answer.err(), sequence.cursor());
     }
-    run.replace(sequence.build(), ACCEPTED);
+    run.replace(sequence.build(), None);
     trace_lines::entries(run.sink, &run.timeline);
     trace_lines::items(run.sink, &items[..n]);
     Ok(())

@@ -1,7 +1,6 @@
 // What a timeline or the group around it shows of itself.
 use case_io::text::Sink;
 use group::group::AnimationGroup;
-use refusal::ACCEPTED;
 use timeline::introspection::{AnimationIntrospection, AnimationKind, PlaybackState};
 use trace_places::run::Run;
 
@@ -16,7 +15,7 @@ pub(crate) fn group(run: &mut Run<'_>) {
 }
 
 fn shown(run: &mut Run<'_>, shown: AnimationIntrospection) {
-    run.line(ACCEPTED);
+    run.line(None);
     line(run.sink, shown);
 }
 

@@ -1,6 +1,6 @@
 // The calls that steer a timeline or add to it, and the delay: each is made, and its lines are printed.
 use clock::Clock;
-use refusal::{ACCEPTED, Refusal, number_in};
+use refusal::Refusal;
 use timeline::timeline::{At, Timeline};
 use trace_places::run::Run;
 use trace_read::{Added, Placement};
@@ -40,14 +40,14 @@ where
         run.timeline = by_value(run.timeline);
     }
     run.place.head = in_place(run.place.head);
-    run.line(ACCEPTED);
+    run.line(None);
     run.compare_clock();
 }
 
 pub fn looping(run: &mut Run<'_>, mode: Loop) {
     run.timeline = run.timeline.looping(mode);
     run.place.head = run.place.head.looping(mode);
-    run.line(ACCEPTED);
+    run.line(None);
     run.compare_clock();
 }
 
@@ -71,7 +71,7 @@ pub fn add_boxed(run: &mut Run<'_>, entry: Added<'_>) {
 }
 
 fn added(run: &mut Run<'_>, answer: Result<Timeline, Refusal>) {
-    run.replace(answer.unwrap_or(run.timeline), number_in(&answer));
+    run.replace(answer.unwrap_or(run.timeline), answer.err());
     trace_lines::entries(run.sink, &run.timeline);
 }
 
@@ -98,6 +98,6 @@ fn last_labeled(t: &Timeline, target: &[u8]) -> usize {
 // A refused delay shows 0.
 pub fn delay(run: &mut Run<'_>, pattern: StaggerPattern, index: u32) {
     let answer = pattern.delay(index);
-    run.line(number_in(&answer));
+    run.line(answer.err());
     trace_lines::delay(run.sink, answer.unwrap_or(0.0));
 }

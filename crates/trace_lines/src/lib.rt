@@ -9,15 +9,15 @@ use case_io::text::Sink;
 use label::Label;
 use lent::LentRows;
 use player::engine::Updated;
-use refusal::Refusal;
+use refusal::{Refusal, number_if};
 use steps::Entry;
 use timeline::timeline::Timeline;
 
 // `i call refusal state elapsed scale fired count base run progress marks`
-pub fn call(sink: &mut Sink, number: usize, byte: u8, refusal: u8, t: &Timeline) {
+pub fn call(sink: &mut Sink, number: usize, byte: u8, refusal: Option<Refusal>, t: &Timeline) {
     sink.decimal(number);
     sink.number(b' ', usize::from(byte));
-    sink.number(b' ', usize::from(refusal));
+    sink.number(b' ', usize::from(number_if(refusal)));
     fields::clock(sink, t.track.clock);
     sink.number(b' ', t.entry_count());
     sink.float(b' ', t.duration());
@@ -107,10 +107,10 @@ pub fn delay(sink: &mut Sink, secs: f32) {
 }
 
 // `  items` and the refusal and cursor of each.
-pub fn items(sink: &mut Sink, items: &[(u8, f32)]) {
+pub fn items(sink: &mut Sink, items: &[(Option<Refusal>, f32)]) {
     sink.bytes(b"  items");
     for (refusal, cursor) in items {
-        sink.number(b' ', usize::from(*refusal));
+        sink.number(b' ', usize::from(number_if(*refusal)));
         sink.float(b':', *cursor);
     }
     sink.byte(b'\n');

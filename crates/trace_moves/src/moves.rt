@@ -1,5 +1,4 @@
 // The calls that move what plays: each is made by value and in place, and its lines are printed.
-use refusal::number_in;
 use trace_lines::lent::{self, LentRows};
 use trace_places::in_place::moved;
 use trace_places::run::Run;
@@ -13,7 +12,7 @@ pub fn moving(run: &mut Run<'_>, call: Move, room: Room) {
     trace_lines::rows(run.sink, &rows);
     let mut rows_in_place = LentRows::new(room);
     let in_place = run.place.make(call, &mut rows_in_place.lend());
-    let same = rows.same(&rows_in_place) && number_in(&answer) == number_in(&in_place);
+    let same = rows.same(&rows_in_place) && answer.err() == in_place.err();
     run.compare(same);
 }
 

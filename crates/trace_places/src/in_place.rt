@@ -51,7 +51,8 @@ impl InPlace {
         InPlace { head, held, marks }
     }
 
-    // A call that moves what plays. It makes its own player, as `update` does: a method that lends one out is not covered.
+    // A call that moves what plays. It makes its own player, as `update` does. Tried: a method that lends one out proves, and here the
+    // check refuses its call ("a call at a lifetime while a reference at that lifetime is lent again").
     pub fn make(&mut self, call: Move, rows: &mut Rows<'_>) -> Result<(), Refusal> {
         let mut player = Player {
             head: self.head,

@@ -33,18 +33,18 @@ impl<'s> Run<'s> {
         if let Ok(timeline) = answer {
             self.timeline = timeline;
         }
-        self.line(refusal::number_in(&answer));
+        self.line(answer.err());
     }
 
     // Another timeline plays from now on, and is laid out in place anew. Prints the line of the call.
-    pub fn replace(&mut self, timeline: Timeline, refusal: u8) {
+    pub fn replace(&mut self, timeline: Timeline, refusal: Option<Refusal>) {
         self.timeline = timeline;
         self.place = InPlace::of(&timeline);
         self.line(refusal);
     }
 
     // Prints the line of the call.
-    pub fn line(&mut self, refusal: u8) {
+    pub fn line(&mut self, refusal: Option<Refusal>) {
         trace_lines::call(self.sink, self.number, self.byte, refusal, &self.timeline);
     }
 

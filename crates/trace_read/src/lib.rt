@@ -13,12 +13,12 @@ pub const ROWS: usize = 300;
 pub const LIST: usize = 1000;
 
 // Why a call is not made: its byte is unknown, or an operand is missing, or one that is not allowed.
-#[derive(Clone, Copy)]
+#[derive(Clone, Copy, Debug, PartialEq, Eq)]
 pub struct Cut;
 
 // A call and its operands. A list that ends a call is no part of it: who makes the call reads it on, into an array of its own, since no
 // heap is allowed.
-#[derive(Clone, Copy)]
+#[derive(Clone, Copy, Debug, PartialEq)]
 pub enum Call<'a> {
     Move(Move, Room),
     Pause,
@@ -38,8 +38,8 @@ pub enum Call<'a> {
     Sequence(u8),
 }
 
-// A call that moves what plays.
-#[derive(Clone, Copy)]
+// A call that moves what plays: data, and no table of functions, since both matches over it name each call (trace_places).
+#[derive(Clone, Copy, Debug, PartialEq)]
 pub enum Move {
     Play,
     Reset,
@@ -49,7 +49,7 @@ pub enum Move {
 }
 
 // A call that builds a timeline of durations.
-#[derive(Clone, Copy)]
+#[derive(Clone, Copy, Debug, PartialEq)]
 pub enum Builder {
     Stagger(f32),
     GroupParallel,
@@ -58,7 +58,7 @@ pub enum Builder {
 }
 
 // An entry that is added.
-#[derive(Clone, Copy)]
+#[derive(Clone, Copy, Debug, PartialEq)]
 pub struct Added<'a> {
     pub label: &'a [u8],
     pub at: Placement<'a>,
@@ -72,7 +72,7 @@ pub struct Cursor<'a> {
 }
 
 // How many places of the row slices are lent.
-#[derive(Clone, Copy)]
+#[derive(Clone, Copy, Debug, PartialEq, Eq)]
 pub struct Room {
     pub kinds: usize,
     pub amounts: usize,
@@ -83,7 +83,7 @@ pub struct Room {
 }
 
 // What an update is handed: the step, the places of the row slices and of the list that are lent, and the replies.
-#[derive(Clone, Copy)]
+#[derive(Clone, Copy, Debug, PartialEq)]
 pub struct Update<'a> {
     pub dt: f32,
     pub room: Room,
@@ -94,7 +94,7 @@ pub struct Update<'a> {
 
 // A placement, in the order of the numbers. An enum of its own beside timeline's `At`, which has a label's number: here a label is given
 // by its text.
-#[derive(Clone, Copy)]
+#[derive(Clone, Copy, Debug, PartialEq)]
 pub enum Placement<'a> {
     Absolute(f32),
     Start,
@@ -104,7 +104,7 @@ pub enum Placement<'a> {
 }
 
 // An item of a sequence, in the order of the numbers.
-#[derive(Clone, Copy)]
+#[derive(Clone, Copy, Debug, PartialEq)]
 pub enum Item<'a> {
     Then { label: &'a [u8], secs: f32 },
     ThenFor { label: &'a [u8], secs: f32 },

@@ -1,12 +1,10 @@
 -- Laid out, run, and gathered; without a log, used up.
 use Prim.Native.Nat.{ℕ}
-use mathlib.Core.Path.{◌≡◌, refl, sym, ap, ◌∙◌}
-use mathlib.Core.List.{List}
+use mathlib.Core.Path.{◌≡◌, sym, ap, ◌∙◌}
 use lib.ListN.{length}
 use Rattle.std.proofs.Common.{rules, None}
 use Rattle.digits.proofs.PutAt.{put_at_nil}
 use Rattle.steps.specs.Times.{max_entries}
-use Rattle.call_log.specs.declared.Batched.{Batched}
 use Rattle.call_log.specs.Machine.{Calls, batched_by, lined}
 use Rattle.call_log.proofs.InPlace.{seated, runs_whole}
 use Rattle.call_log.proofs.Batches.{closed_batch}
