@@ -155,8 +155,8 @@ gathered k h ss ds ms e l =
 
 -- columns in which all live entries were laid out hold the trimmed track
 pub seated : (k : Track) → length k.entries ≡ max_entries → {h : Playhead} {s₀ s d₀ d : List Float} {m₀ m : List Bool} → LaysOut k (take max_entries (live k)) h s₀ s d₀ d m₀ m
-    → (p : Player) → (p.head ≡ h) × (p.spans.starts.now ≡ s) × (p.spans.durations.now ≡ d) × (p.marks.now ≡ m) → playing_in p ≡ trimmed k
-seated k l w p e = rw e (all_laid k l refl w.track)
+    → {ss ds : List Float} → ss ≡ s → ds ≡ d → track_of h ss ds m ≡ trimmed k
+seated k l w es ed = rw (es, ed) (all_laid k l refl w.track)
 
 -- the calls of a batch run by a player of columns of 64, in which the whole track was laid out: what is gathered is what the batch leaves of it
 pub runs_whole : (ended : Bool) (log : Log) (bytes old new : List ℕ) {g : Track} (p q : Player) (r : Ran) → playing_in p ≡ trimmed log.track → 64 ≡ length p.spans.starts.now

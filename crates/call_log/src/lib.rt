@@ -138,8 +138,13 @@ pub fn batch(log: Option<Log>, bytes: &[u8], ended: bool, out: &mut [u8]) -> Bat
             log: None,
         };
     };
+    // By hand, tried with `Player::of`, whose parts are of one lifetime: the check does not cover a call at it while a part is lent again.
     let columns = &mut Columns::of(log.track);
-    let mut player = Player::of(columns);
+    let mut player = Player {
+        head: columns.head,
+        spans: columns.held.spans(),
+        marks: &mut columns.marks,
+    };
     let ran = run(log.number, &mut player, bytes, ended, out);
     let gathered = log.track.gather(player.head, player.spans, player.marks);
     let track = Track {

@@ -25,6 +25,6 @@ returns c =
     let log = c.in-Some.log in
     let own = c.well_formed.0.1.1 in
     let long : length log.track.entries ≡ max_entries = search (rules, own) in
-    let laid = seated log.track long c.of.ensures c.of-player.result c.of-player.ensures in
+    let laid = seated log.track long c.of.ensures c.spans.ensures.0 c.spans.ensures.1 in
     let w = runs_whole c.args.ended log c.args.bytes.now c.args.out.now _ _ _ _ laid (search rules) c.run-ran.ensures c.gather-gathered.ensures in
     record { value = rw c.in-Some.is w.0; out_after = rw c.in-Some.is w.1 }
