@@ -20,7 +20,7 @@ use track::track::Share;
 use tween::StaggerPattern;
 
 // A group of animations that is controlled as one.
-#[derive(Clone, Copy)]
+#[derive(Clone, Copy, Debug)]
 pub struct AnimationGroup {
     pub inner: Timeline,
 }

@@ -6,7 +6,7 @@ use refusal::Refusal;
 use timeline::timeline::{At, Timeline};
 
 // A timeline, and the second at which its next entry starts.
-#[derive(Clone, Copy)]
+#[derive(Clone, Copy, Debug)]
 pub struct Sequence {
     pub inner: Timeline,
     pub cursor: f32,
