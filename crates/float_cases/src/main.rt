@@ -20,7 +20,7 @@ const LINE: usize = 12;
 const BLOCK: usize = 3072;
 
 // Answers to the end of the input, or until a write fails. A proved loop has to end, and nothing says that the input does: so it ends at
-// a number of turns that no run uses up; `rt.forever()` would need leave to wait.
+// a number of turns that no run uses up. Not `rt.forever()`: a program that has it counts as one with threads.
 fn main(rt: HostRuntime) {
     let mut stdin = rt.stdin();
     for _ in 0..u64::MAX {

@@ -73,17 +73,14 @@ pub fn read(sheet: &[u8]) -> Reading
         refusal,
         description,
     } = describe(sheet);
-    match refusal {
-        None => Reading {
-            refusal,
-            described: description,
-            timeline: build(description),
-        },
-        Some(_) => Reading {
-            refusal,
-            described: description,
-            timeline: Timeline::new(),
-        },
+    let timeline = match refusal {
+        None => build(description),
+        Some(_) => Timeline::new(),
+    };
+    Reading {
+        refusal,
+        described: description,
+        timeline,
     }
 }
 

@@ -37,7 +37,8 @@ impl Item {
 
 // A panel. Items past the count are no part of it, nor are bytes past a label's length. An array and a count: in paper 01 `Vec`
 // becomes a fixed array, and a description is Copy, which an `ArrayVec` is not.
-#[derive(Clone, Copy)]
+// No `==`, as `Item` has none.
+#[derive(Clone, Copy, Debug)]
 pub struct Description {
     pub count: usize,
     pub looping: Loop,
@@ -84,7 +85,7 @@ impl Description {
 }
 
 // The answer of describe. Not a Result: a refusing reader hands out the empty panel (paper 01), so the description stands beside the refusal.
-#[derive(Clone, Copy)]
+#[derive(Clone, Copy, Debug)]
 pub struct Described {
     pub refusal: Option<Refusal>,
     pub description: Description,
@@ -94,14 +95,9 @@ pub struct Described {
 pub fn describe(sheet: &[u8]) -> Described
     ensures { numbered result ≡ described_by sheet.now }
 {
-    match Description::read(sheet) {
-        Ok(description) => Described {
-            refusal: None,
-            description,
-        },
-        Err(refusal) => Described {
-            refusal: Some(refusal),
-            description: Description::empty(),
-        },
+    let read = Description::read(sheet);
+    Described {
+        refusal: read.err(),
+        description: read.unwrap_or(Description::empty()),
     }
 }

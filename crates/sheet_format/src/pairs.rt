@@ -10,7 +10,7 @@ use crate::description::Item;
 use crate::header::labels_at;
 use crate::put::put;
 use sheet_rules::HEADER_SIZE;
-use words::PAIR_SIZE;
+use words::{PAIR_SIZE, Pair};
 
 // Writes the pairs of these entries, whose labels start behind the records. What is asked of the room is asked here and in
 // `put_records` alone, so no type keeps it.
@@ -23,17 +23,17 @@ pub(crate) fn put_pairs(room: &mut [u8], items: &[Item])
     // `at` by hand: after `chunks_mut` a proof knows the length of `room` only
     for item in items {
         let len = item.label.text().len();
-        put_pair(room, at, offset, len);
+        put_pair(room, at, Pair { offset, len });
         at += PAIR_SIZE;
         offset += len;
     }
 }
 
 // Writes the pair of a label: where it starts, and how long it is.
-fn put_pair(room: &mut [u8], at: usize, offset: usize, len: usize)
-    requires { (at + pair_size ≤ length room.old) × (offset < 65536) × (len < 65536) }
-    ensures { room.new ≡ put_at (pair_of offset len) at room.old }
+fn put_pair(room: &mut [u8], at: usize, pair: Pair)
+    requires { (at + pair_size ≤ length room.old) × (pair.offset < 65536) × (pair.len < 65536) }
+    ensures { room.new ≡ put_at (pair_of pair.offset pair.len) at room.old }
 {
-    put(room, at, &(offset as u16).to_le_bytes());
-    put(room, at + 2, &(len as u16).to_le_bytes());
+    put(room, at, &(pair.offset as u16).to_le_bytes());
+    put(room, at + 2, &(pair.len as u16).to_le_bytes());
 }

@@ -20,7 +20,7 @@ use tween::Loop;
 use words::{PAIR_SIZE, pair_at, part_at, u32_at};
 
 // The bytes, how many entries there are, and how they loop.
-#[derive(Clone, Copy)]
+#[derive(Clone, Copy, Debug, PartialEq)]
 pub(crate) struct Sheet<'a> {
     pub(crate) bytes: &'a [u8],
     pub(crate) count: usize,

@@ -7,8 +7,8 @@ use std::io;
 use std::io::Read;
 
 // How many bytes are there, and the error of the read that failed, if one did. Not a Result: for some programs what was read before a
-// failed read counts.
-#[derive(Clone, Copy)]
+// failed read counts. No `==`: an `io::Error` has none.
+#[derive(Clone, Copy, Debug)]
 pub struct Got {
     pub count: usize,
     pub error: Option<io::Error>,
