@@ -22,8 +22,8 @@ fn main(rt: HostRuntime) {
     let mut list = [0u8; LIST];
     let mut sheet = [0u8; SHEET];
     let mut sink = Sink::new(rt.stdout(), Form::Text);
-    // A proved loop has to end, and nothing says that the input does: so it ends at a number of records that no run reaches;
-    // `rt.forever()` would need leave to wait.
+    // A proved loop has to end, and nothing says that the input does: so it ends at a number of records that no run reaches.
+    // Not `rt.forever()`: a program that has it counts as one with threads.
     for _ in 0..u64::MAX {
         let Some(first) = read_record(&mut stdin, &mut list) else {
             break;
@@ -36,7 +36,8 @@ fn main(rt: HostRuntime) {
     sink.end();
 }
 
-// Reads the rest of a record and prints its line; prints none where the record is cut.
+// Reads the rest of a record and prints its line; prints none where the record is cut. No `Cut` is answered: what there
+// is of a cut record is not printed.
 fn answer(
     stdin: &mut Stdin,
     sink: &mut Sink,
