@@ -1,5 +1,6 @@
 // What was read of the script and is not used yet.
 ghost use Rattle.std.specs.Prelude.{◌≤◌};
+ghost use Rattle.door_log.specs.declared.unread.TheConstants.{CHUNK};
 
 use call_log::CALL;
 use std::io;
@@ -14,7 +15,7 @@ pub(crate) struct Unread {
     chunk: [u8; CHUNK],
     from: usize,
     to: usize,
-    ghost within: { (from ≤ to) × (to ≤ 65536) },
+    ghost within: { (from ≤ to) × (to ≤ CHUNK) },
 }
 
 impl Unread {
@@ -59,7 +60,7 @@ impl Unread {
         &self.chunk[self.from..self.to]
     }
 
-    // Passes over so many, or all.
+    // Passes over so many, or all: that a batch uses no more than there is stands in no clause of its own.
     pub(crate) fn used(&mut self, count: usize) {
         self.from += count.min(self.to - self.from);
     }

@@ -14,7 +14,7 @@ use sheet_format::description::{Described, Description, Item, Placement};
 use timeline::timeline::{At, Timeline};
 
 // The answer of read. Not a Result: a refusing reader hands out the empty panel (paper 01), so both parts stand beside the refusal.
-#[derive(Clone, Copy)]
+#[derive(Clone, Copy, Debug)]
 pub struct Reading {
     pub refusal: Option<Refusal>,
     pub described: Description,
