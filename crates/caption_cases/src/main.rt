@@ -36,8 +36,8 @@ fn main(rt: HostRuntime) {
     sink.end();
 }
 
-// Reads the rest of a record and prints its line; prints none where the record is cut. No `Cut` is answered: what there
-// is of a cut record is not printed.
+// Reads the rest of a record and prints its line; prints none where the record is cut. An Option, and no `Result`: what
+// there is of a cut record is not printed, so an error would carry nothing.
 fn answer(
     stdin: &mut Stdin,
     sink: &mut Sink,

@@ -58,7 +58,7 @@ fn read_front<'a>(stdin: &mut Stdin, room: &'a mut [u8; FRONT]) -> io::Result<&'
 
 // Makes the calls, to the end of the input: those that were read whole, a batch at a time, as many as have room for their lines. At the
 // end no more than one is left: that is all. A proved loop has to end, and nothing says that the input does: so it ends at a number of
-// turns that no run uses up; `rt.forever()` would need leave to wait.
+// turns that no run uses up. Not `rt.forever()`: a program that has it counts as one with threads.
 fn script(stdin: &mut Stdin, stdout: Stdout, opened: Log) -> Result<(), NotWhole> {
     let mut log = Some(opened);
     let mut unread = Unread::new();

@@ -90,7 +90,7 @@ fn sent(stdout: Stdout, timeline: Timeline) {
     }
 }
 
-// The number by which a call is refused, or 0, after what it is.
+// The number by which a call is refused, or 0, after what it is: answers of several types come here, by `number_in` or `number_if`.
 fn line(stdout: Stdout, name: &str, number: u8) {
     println!(stdout; "{name}: {number}").is_ok();
 }

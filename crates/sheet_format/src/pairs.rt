@@ -20,7 +20,7 @@ pub(crate) fn put_pairs(room: &mut [u8], items: &[Item])
 {
     let mut at = HEADER_SIZE;
     let mut offset = labels_at(items.len());
-    // `at` by hand: after `chunks_mut` a proof knows the length of `room` only
+    // `at` by hand: tried with `chunks_exact_mut`, whose loop's invariant cannot name `room`, so that what was written stays open
     for item in items {
         let len = item.label.text().len();
         put_pair(room, at, Pair { offset, len });

@@ -119,7 +119,7 @@ impl<'a> Sheet<'a> {
         ensures value { IfOk result (λ items. items ≡ items_from self.entry.bytes.now self.entry.count (drop header_size self.entry.bytes.now) (drop (records_at self.entry.count) self.entry.bytes.now) ++ replicate (max_entries - self.entry.count) blank_item) }
     {
         let mut items = [Item::blank(); MAX_ENTRIES];
-        // by index: after `iter_mut` a proof knows the length of `items` only
+        // by index: tried with `iter_mut`, whose loop's invariant cannot name `items`, so that what was written stays open
         for i in 0..self.count {
             items[i] = self.item(i)?;
         }
