@@ -24,7 +24,8 @@ use tween::loop_mode::passes;
 pub const MOST_ENTRIES: usize = 256;
 
 // Where the entries stand: their starts and their durations, two lent columns, over which the loops run in place. Each has a
-// length of its own, since whoever lends them may give any two: entries past the shorter column do not count.
+// length of its own, since whoever lends them may give any two: entries past the shorter column do not count. Copied alone: nobody
+// shows or compares what is lent.
 #[derive(Clone, Copy)]
 pub struct Spans<'a> {
     pub starts: &'a [f32],

@@ -1,7 +1,7 @@
 // Numbers as text, in ASCII, put into a lent slice. Each answers how many bytes were written: none where the text has no
 // room there, and then nothing is written.
 // None of them asks for room, since no public function here asks anything of its callers: who knows that there is room takes
-// `unwrap_or(0)`, and proves by `put_whole` that the 0 is never taken.
+// `unwrap_or(0)`, and proves that the 0 is never taken (by `put_whole`, or the like).
 // Put by hand: `write!` writes at the end of a text, and what had no room is lost or cut.
 #![tactic(auto)]
 

@@ -23,7 +23,7 @@ pub struct Secs(pub f32);
 pub struct Share(pub f32);
 
 // What plays. The entries that count are the first count of the array, or all of it: paper 01 has fixed arrays in place of `Vec`, and
-// a track is `Copy`. Flat, with no `Playhead` in it, as the Rust's `Timeline` is, whose shape paper 01 keeps (docs/DECISIONS.md, "the
+// a track is `Copy`. Flat, with no `Playhead` in it, as the Rust's `Timeline` is: its shape stays, as a rule (docs/DECISIONS.md, "the
 // struct's shape stays").
 #[derive(Clone, Copy, Debug)]
 pub struct Track {
