@@ -13,7 +13,7 @@ placement_of kind target seconds =
     (cond (eqb kind 2) End
     (cond (eqb kind 3) (Labeled target) (Offset seconds))))
 
--- the placement that a record says, or refusal 10: "placement kind above 4"
+-- the placement that a record says, or refusal 10: "kind above 4"
 abbrev pub placement_in : ℕ → ℕ → ℕ → Result Placement Refusal
 placement_in kind target seconds = cond (ltb 4 kind) (Err SheetPlacement) (Ok (placement_of kind target seconds))
 

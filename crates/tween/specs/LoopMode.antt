@@ -25,7 +25,7 @@ loop_of mode number =
     (cond (eqb mode 2) Forever
     (cond (eqb mode 3) PingPong (PingPongTimes number))))
 
--- the mode that a sheet says, or refusal 9: "loop mode above 4"
+-- the mode that a sheet says, or refusal 9: "the loop mode is above 4"
 abbrev pub loop_in : ℕ → ℕ → Result Loop Refusal
 loop_in mode number = cond (ltb 4 mode) (Err SheetLoop) (Ok (loop_of mode number))
 
