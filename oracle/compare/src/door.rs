@@ -208,7 +208,7 @@ fn everyday(rng: &mut Rng) -> Vec<u8> {
             0 => At::Absolute(eighths(rng, 4)),
             1 | 2 => At::Start,
             3 | 4 => At::End,
-            5 => At::Label(rng.below(n) as u8),
+            5 => At::Label(rng.below(n) as usize),
             6 => At::Offset(eighths(rng, 2)),
             _ => At::Offset(eighths(rng, 2) | 0x8000_0000),
         };
