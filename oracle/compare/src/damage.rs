@@ -200,13 +200,19 @@ pub fn random(rng: &mut Rng) -> Vec<u8> {
         1 => rng.below(65),
         _ => rng.below(6),
     };
-    random_of(rng, n)
+    random_of(rng, n, |_| None)
 }
 
 /// A good sheet of more than 64 entries.
 pub fn random_long(rng: &mut Rng) -> Vec<u8> {
     let n = long_count(rng);
-    random_of(rng, n)
+    random_of(rng, n, |_| None)
+}
+
+/// One as long as the longest was before, 2,572 bytes, or by a byte longer, or as long as the longest is.
+pub fn random_longest(rng: &mut Rng) -> Vec<u8> {
+    let (n, first, others) = rng.pick(&[(160, 0, 0), (160, 1, 0), (256, 24, 24)]);
+    random_of(rng, n, |k| Some(if k == 0 { first } else { others }))
 }
 
 /// More than 64, mostly few more; often as many as can be.
@@ -219,7 +225,8 @@ pub fn long_count(rng: &mut Rng) -> u32 {
     }
 }
 
-fn random_of(rng: &mut Rng, n: u32) -> Vec<u8> {
+/// Of so many entries, and with labels of these lengths.
+fn random_of(rng: &mut Rng, n: u32, length: impl Fn(u32) -> Option<u32>) -> Vec<u8> {
     let mode = match rng.below(5) {
         0 => Mode::Once,
         1 => Mode::Times(random_number(rng)),
@@ -228,7 +235,7 @@ fn random_of(rng: &mut Rng, n: u32) -> Vec<u8> {
         _ => Mode::PingPongTimes(random_number(rng)),
     };
     let scale = random_bits(rng);
-    let entries = (0..n).map(|_| random_entry(rng, n, None)).collect();
+    let entries = (0..n).map(|k| random_entry(rng, n, length(k))).collect();
     reader::write(&described(mode, scale, entries))
 }
 

@@ -88,7 +88,7 @@ fn lines(refusal: u8, described: &Described, out: &mut String) {
         put!(out, "  item {kind} {target} {seconds:08x} {duration:08x} ");
         label_text(&entry.label, out);
     }
-    timeline_lines(&built(described), out);
+    timeline_lines(&built(described, Leaf::new), out);
 }
 
 fn timeline_lines(timeline: &Timeline, out: &mut String) {
@@ -226,25 +226,33 @@ fn bits(x: f32) -> u32 {
     }
 }
 
-/// The Rust's timeline.
-fn built(described: &Described) -> Timeline {
-    described.calls().iter().fold(Timeline::new(), called)
+/// The Rust's timeline, with a leaf for each duration.
+pub fn built<L>(described: &Described, leaf: impl Fn(f32) -> L) -> Timeline
+where
+    L: Playable + Send + 'static,
+{
+    let calls = described.calls();
+    let add = |timeline, call| called(timeline, call, &leaf);
+    calls.iter().fold(Timeline::new(), add)
 }
 
-fn called(mut timeline: Timeline, call: &Call) -> Timeline {
+fn called<L>(mut timeline: Timeline, call: &Call, leaf: impl Fn(f32) -> L) -> Timeline
+where
+    L: Playable + Send + 'static,
+{
     match call {
         Call::Looping(mode) => timeline.looping(mode.looping()),
         Call::SetTimeScale(scale) => {
             timeline.set_time_scale(*scale);
             timeline
         }
-        Call::Add(add) => added(timeline, add),
+        Call::Add(add) => added(timeline, add, leaf(add.duration)),
         _ => unreachable!("a sheet has no such call"),
     }
 }
 
-fn added(timeline: Timeline, add: &Add) -> Timeline {
-    let (label, leaf) = (image(&add.label), Leaf::new(add.duration));
+fn added(timeline: Timeline, add: &Add, leaf: impl Playable + Send + 'static) -> Timeline {
+    let label = image(&add.label);
     match &add.at {
         Place::Absolute(secs) => timeline.add(label, leaf, RustAt::Absolute(*secs)),
         Place::Start => timeline.add(label, leaf, RustAt::Start),
