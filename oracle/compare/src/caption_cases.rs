@@ -3,7 +3,7 @@
 
 use crate::damage;
 use crate::lists;
-use crate::reader;
+use crate::reader::{self, Described};
 use crate::rng::Rng;
 use crate::venue::{self, Caption};
 use std::fmt::Write as _;
@@ -401,10 +401,14 @@ pub fn sample() -> Vec<Case> {
         cases.extend(numbered.map(|(number, list)| Case::new(&list, &sheets[3], number % 3)));
     }
     cases.extend(sampled_sheets(&sheets[2]));
+    cases.extend(sampled_numbers(&sheets[2], SHEET, reader::old_read));
     let mut rng = Rng::new(1);
     let random = std::iter::repeat_with(|| random(&mut rng));
     let random = random.filter(|case| case.record().len() <= SAMPLED_BYTES);
     cases.extend(random.take(SAMPLED));
+    // the records above are those of before S-2, those below are of it
+    let moved = [8, 12].into_iter();
+    cases.extend(sampled_numbers(&sheets[2], moved, reader::read));
     cases.extend(sampled_long_sheets());
     cases
 }
@@ -439,22 +443,34 @@ fn sampled_long_sheets() -> Vec<Case> {
     cases
 }
 
-/// Each field of the sheet damaged, with a good list or a bad one; and for each number one such sheet with
-/// either list, and with an entry that is there and one that is not.
+/// Each field of the sheet damaged, with a good list or a bad one.
 fn sampled_sheets(sheet: &[u8]) -> Vec<Case> {
+    let lists = sampled_lists();
+    let faults = damage::fields(sheet);
+    let numbered = (0..).zip(&faults);
+    let case = |(number, fault): (usize, &damage::Fault)| {
+        let (list, entry) = (&lists[number % 2], [0, 1, 2][number % 3]);
+        Case::new(list, &fault.applied(sheet), entry)
+    };
+    numbered.map(case).collect()
+}
+
+/// A good list and a bad one.
+fn sampled_lists() -> [Vec<u8>; 2] {
     let good = lists::write(&lists::small()[8]);
     let bad = [&good[..], &[0]].concat();
+    [good, bad]
+}
+
+/// For each of these numbers one sheet that this reader refuses by it, with either list, and with an entry that
+/// is there and one that is not.
+fn sampled_numbers(sheet: &[u8], numbers: impl Iterator<Item = u8>, read: Read) -> Vec<Case> {
+    let [good, bad] = sampled_lists();
     let faults = damage::fields(sheet);
     let damaged: Vec<Vec<u8>> = faults.iter().map(|fault| fault.applied(sheet)).collect();
-    let numbered = (0..).zip(&damaged);
-    let mut cases: Vec<Case> = numbered
-        .map(|(number, damaged)| {
-            let list = [&good, &bad][number % 2];
-            Case::new(list, damaged, [0, 1, 2][number % 3])
-        })
-        .collect();
-    for number in SHEET {
-        let refused = |sheet: &&Vec<u8>| sheet.len() > 1 && reader::read(sheet) == Err(number);
+    let mut cases = Vec::new();
+    for number in numbers {
+        let refused = |sheet: &&Vec<u8>| sheet.len() > 1 && read(sheet) == Err(number);
         if let Some(damaged) = damaged.iter().find(refused) {
             for (list, entry) in [(&good, 0), (&bad, 0), (&good, u32::MAX), (&bad, u32::MAX)] {
                 cases.push(Case::new(list, damaged, entry));
@@ -463,6 +479,8 @@ fn sampled_sheets(sheet: &[u8]) -> Vec<Case> {
     }
     cases
 }
+
+type Read = fn(&[u8]) -> Result<Described, u8>;
 
 #[cfg(test)]
 mod tests {

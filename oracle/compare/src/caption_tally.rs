@@ -168,7 +168,10 @@ const KINDS: [Kind; 30] = [
 ];
 
 /// Those of sheets of more than 64 entries.
-const LONG_SHEETS: [Kind; 6] = [
+const LONG_SHEETS: [Kind; 7] = [
+    ("an entry from 64 on, from the list", |s| {
+        s.of_list() && s.case.entry > 63
+    }),
     ("entry 64", |s| s.accepted() && s.case.entry == 64),
     ("entry 255, from the list", |s| {
         s.of_list() && s.case.entry == 255

@@ -565,6 +565,41 @@ fn answers(input: &[u8]) -> Vec<u8> {
 const SAMPLED: usize = 100;
 const SAMPLED_BYTES: usize = 200;
 
+/// Sheets of more than 64 entries, good ones and some with other counts, ends and records; every byte 3 of a
+/// sheet without entries, and small sheets with other counts.
+fn sampled_long() -> Vec<Vec<u8>> {
+    let small = damage::small();
+    let high_bytes = (1..=255).map(|high| Fault::Set(3, vec![high]).applied(&small[0]));
+    let counts = [&small[0], &small[7]].map(|sheet| applied(sheet, damage::counts(sheet)));
+    let longer = damage::longer();
+    let [of_65, of_255, of_256] = [1, 4, 6].map(|number| &longer[number]);
+    let every_fourth = damage::counts(of_256).into_iter().step_by(4);
+    // the records of 255 entries start at 1,032, of 256 at 1,036
+    let (last_of_255, last_of_256) = (1032 + 12 * 254, 1036 + 12 * 255);
+    let others = vec![
+        Fault::Set(last_of_256, vec![3, 255, 0, 0, 0, 0, 0, 0]),
+        Fault::Set(last_of_256, vec![1, 0, 1, 0, 0, 0, 0, 0]),
+        Fault::Set(last_of_256, vec![1, 255, 0, 0, 0, 0, 0, 0]),
+        Fault::Cut(of_256.len() - 1),
+        Fault::Append(vec![0]),
+    ];
+    [
+        high_bytes.collect(),
+        counts.concat(),
+        applied(of_65, damage::counts(of_65)),
+        applied(of_256, every_fourth.collect()),
+        applied(of_256, others),
+        applied(of_255, vec![Fault::Set(last_of_255, vec![3, 255, 0, 0])]),
+        damage::too_many().into_iter().step_by(3).take(2).collect(),
+        longer,
+    ]
+    .concat()
+}
+
+fn applied(sheet: &[u8], faults: Vec<Fault>) -> Vec<Vec<u8>> {
+    faults.iter().map(|fault| fault.applied(sheet)).collect()
+}
+
 /// Writes good and damaged sheets, and the answers to them, to where `rt` replays them.
 pub fn write_sample() -> Result<(), String> {
     let mut rng = Rng::new(1);
@@ -583,6 +618,7 @@ pub fn write_sample() -> Result<(), String> {
             left -= 1;
         }
     }
+    sheets.extend(sampled_long());
     let text = texts(&sheets);
     let folder = port::root().join("crates").join(PROGRAM);
     fs::write(folder.join("stdin"), input(TEXT, &sheets, &[])).map_err(|e| e.to_string())?;
