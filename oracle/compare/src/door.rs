@@ -584,19 +584,23 @@ pub fn compare(options: &Options) -> Result<(), String> {
     let jobs = thread::available_parallelism().map_or(1, usize::from);
     let mut rng = Rng::new(options.seed);
     let mut tally = Tally::default();
-    while tally.inputs < options.inputs {
+    let mut next_batch = || -> Vec<Case> {
         let numbers = tally.inputs..options.inputs.min(tally.inputs + BATCH);
-        let batch: Vec<Case> = numbers
-            .map(|number| Case::new(number, &mut rng, &mut tally))
-            .collect();
+        let case = |number| Case::new(number, &mut rng, &mut tally);
+        numbers.map(case).collect()
+    };
+    let mut batch = next_batch();
+    while !batch.is_empty() {
         let each = batch.len().div_ceil(jobs);
-        thread::scope(|scope| {
+        // the next batch is made beside the runs of this one
+        batch = thread::scope(|scope| {
             let runs: Vec<_> = batch
                 .chunks(each)
                 .map(|part| scope.spawn(|| part.iter().try_for_each(|case| case.same(&program))))
                 .collect();
+            let next = next_batch();
             let joined = runs.into_iter().map(|run| run.join().expect("a run"));
-            joined.collect::<Result<(), String>>()
+            joined.collect::<Result<(), String>>().map(|()| next)
         })?;
     }
     println!("{PROGRAM}: seed {}, no differences", options.seed);

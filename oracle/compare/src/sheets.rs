@@ -18,6 +18,7 @@ use animato_tween::Loop;
 use std::fmt::Write as _;
 use std::fs;
 use std::io::{self, Read, Write as _};
+use std::thread;
 
 const PROGRAM: &str = "sheet_cases";
 
@@ -437,13 +438,19 @@ impl Run<'_> {
             compare_text(&sheets, self.port)?;
         }
         let (end, cut) = damaged_end(&mut self.rng, &sheets);
-        let output = self.port.run(PROGRAM, &input(DIGESTS, &sheets, &end))?;
+        let (port, input) = (self.port, input(DIGESTS, &sheets, &end));
+        // both sides at once
+        let (output, answers) = thread::scope(|scope| {
+            let output = scope.spawn(|| port.run(PROGRAM, &input));
+            let answers: Vec<_> = sheets.iter().map(|sheet| digest_answer(sheet)).collect();
+            (output.join().expect("a run"), answers)
+        });
+        let output = output?;
         let mut lines = output.split_inclusive(|&byte| byte == b'\n');
-        for sheet in &sheets {
-            let (text, refusal) = answer(sheet);
-            let added = self.tally.add(sheet, refusal);
+        for (sheet, (digest, refusal)) in sheets.iter().zip(&answers) {
+            let added = self.tally.add(sheet, *refusal);
             added.map_err(|why| format!("{PROGRAM}: {why}\n{}", hex(sheet)))?;
-            if lines.next() != Some(&digest_line(text.as_bytes())) {
+            if lines.next() != Some(digest) {
                 return Err(shown(sheet, self.port)?);
             }
         }
@@ -452,6 +459,11 @@ impl Run<'_> {
         }
         Ok(())
     }
+}
+
+fn digest_answer(sheet: &[u8]) -> (Vec<u8>, u8) {
+    let (text, refusal) = answer(sheet);
+    (digest_line(text.as_bytes()), refusal)
 }
 
 fn number(sheet: &[u8]) -> u8 {
