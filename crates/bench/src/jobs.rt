@@ -70,7 +70,7 @@ impl Job {
 
     // Entries that start one after another and overlap. For the longest walk they are so short that an update by three units in the
     // last place goes over 642 cycles, 385 of them without a completion, before it is known that they outnumber a list of 256.
-    pub(crate) fn built(self, entries: u8) -> Timeline {
+    pub(crate) fn built(self, entries: u16) -> Timeline {
         let mut t = Timeline::new().looping(self.mode());
         for i in 0..entries {
             let at = float32::from_u32(u32::from(i));
@@ -97,7 +97,7 @@ impl Job {
 }
 
 // The base of whole timelines, built again and again: as many entries as turns.
-pub(crate) fn adds(entries: u8, turns: u32) -> f32 {
+pub(crate) fn adds(entries: u16, turns: u32) -> f32 {
     let times = turns.checked_div(u32::from(entries)).unwrap_or(0);
     let mut base = 0.0;
     for _ in 0..times {

@@ -43,9 +43,8 @@ impl<'a> Sheet<'a> {
         }
         let header = Header {
             version: bytes[0],
-            count: bytes[1],
+            count: u16::from_le_bytes([bytes[1], bytes[3]]),
             mode: bytes[2],
-            reserved: bytes[3],
             number: u32_at(bytes, 4),
         };
         let looping = header.looping(bytes.len())?;
