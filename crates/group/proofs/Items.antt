@@ -36,7 +36,7 @@ label_length i = length-append item_prefix (decimal i)
 pub label_fits_lem : (i : ℕ) → i < max_entries → length (item_label i) ≤ max_label
 label_fits_lem i h =
     let k : i < 10 ^ 3 = omega arith in
-    omega (arith, label_length i, decimal-least i 2 (lit≤ tt) k)
+    omega (arith, label_length i, decimal-least i 3 (lit≤ tt) k)
 
 -- the first bytes, n of them after `item_`, are a label
 pub record Labeled (i n : ℕ) (bytes : List ℕ) : Type 0 where

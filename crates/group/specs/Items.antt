@@ -23,7 +23,7 @@ unfoldable pub item_calls : (ℕ → At) → ℕ → List Float → List Call
 item_calls at i [] = []
 item_calls at i (d ∷ ds) = Add (item_label i) (at i) d ∷ item_calls at (i + 1) ds
 
--- 1: "an entry past the 64th", for n items
+-- 1: an entry past the 256th, for n items
 unfoldable pub too_many : ℕ → ℕ
 too_many n = cond (ltb max_entries n) timeline_full accepted
 
