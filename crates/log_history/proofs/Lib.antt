@@ -3,4 +3,5 @@ pub mod Fronts
 pub mod Turns
 pub mod Runs
 pub mod Worked
+pub mod Stored
 pub mod Claim
