@@ -18,7 +18,7 @@ use Rattle.call_log.proofs.Opening.{open-refused, open-accepted}
 use Rattle.log_history.proofs.Worked.{nan_shown, worked}
 use Rattle.log_history.proofs.Runs.{closed_runs, open-runs}
 use Rattle.log_history.proofs.Turns.{enough_runs, goes_on, turns-keep}
-use Rattle.log_history.proofs.Stored.{takes_all, takes_old_inputs, meets_old_log}
+use Rattle.log_history.proofs.Stored.{takes_all, keeps_old_logs, meets_old_log}
 
 -- the log of a sheet that is refused, and of one that is accepted
 prints_as : (b : Bool) (input : List ℕ) → eqb (sheet_number input) 0 ≡ b → length input < 18446744073709551615
@@ -63,7 +63,7 @@ claim =
       ends_whole = ends_whole;
       goes_on = goes_on;
       takes_all = takes_all;
-      takes_old_inputs = takes_old_inputs;
+      keeps_old_logs = keeps_old_logs;
       meets_old_log = meets_old_log;
       nan_shown = nan_shown;
       worked = worked;

@@ -20,13 +20,15 @@ use Rattle.sheet_format.proofs.Accepted.{Accepted, accepted-sheet}
 use Rattle.timeline.specs.Placements.{empty}
 use Rattle.sheet_format.specs.Descriptions.{empty_description, description_in}
 use Rattle.sheet.specs.Build.{built, NumberedReading, reading_of}
-use Rattle.sheet.specs.Stored.{old_max_entries, old_check_number}
+use Rattle.sheet.specs.Stored.{old_max_entries, old_check_number, longer_track}
 use Rattle.sheet.proofs.Claim.{claim as sheets}
-use Rattle.call_log.specs.Logs.{length_size, sheet_in, sheet_number}
+use Rattle.sheet.proofs.Stored.{old_accepted, built_old}
+use Rattle.call_log.specs.Logs.{length_size, sheet_in, script_in, track_in, sheet_number, log_of}
 use Rattle.call_log.proofs.Opening.{number-whole}
-use Rattle.log_history.specs.Stored.{old_max_sheet, old_is_cut, old_sheet_number}
-use Rattle.log_history.specs.Claim.{TakesAll, TakesOldInputs, MeetsOldLog}
+use Rattle.log_history.specs.Stored.{old_max_sheet, old_is_cut, old_sheet_number, old_track_in, old_lines}
+use Rattle.log_history.specs.Claim.{TakesAll, KeepsOldLogs, MeetsOldLog}
 use Rattle.log_history.proofs.Fronts.{whole, whole_uncut}
+use Rattle.log_history.proofs.Before.{longer_lines}
 
 -- ---- the longest sheet
 
@@ -49,18 +51,27 @@ takes_all s e =
 
 -- ---- what the log of before accepted
 
-pub takes_old_inputs : TakesOldInputs
+-- its log is that of the old panel, in longer arrays
+same_log : (input : List ℕ) → sheet_number input ≡ 0 → old_check_number (sheet_in input) ≡ 0 → log_of input ≡ old_lines input
+unfolding log_of
+same_log input n f =
+    let l = built_old (sheet_in input) (old_accepted (sheet_in input) f).0 in
+    let t : track_in input ≡ longer_track (old_track_in input) = ap (λ (r : NumberedReading). r.timeline.track) (sheets.stored (sheet_in input) f).reading in
+    rw (n, t, longer_lines (old_track_in input) l.few l.entries (script_in input))
+
+pub keeps_old_logs : KeepsOldLogs
 unfolding old_sheet_number old_is_cut
-takes_old_inputs input e = go (old_is_cut input) refl e
+keeps_old_logs input e = go (old_is_cut input) refl e
   where
-    go : (b : Bool) → old_is_cut input ≡ b → cond b sheet_length (old_check_number (sheet_in input)) ≡ 0 → sheet_number input ≡ 0
+    go : (b : Bool) → old_is_cut input ≡ b → cond b sheet_length (old_check_number (sheet_in input)) ≡ 0 → (sheet_number input ≡ 0) × (log_of input ≡ old_lines input)
     go true c f = absurd (omega arith)
     go false c f =
         let a = or_parts (ltb (length input) length_size) _ c in
         let b = or_parts (ltb old_max_sheet (word length_size input)) _ a.1 in
         let few : word length_size input ≤ old_max_sheet = ltb-false _ _ b.0 in
         let w = whole_uncut input (record { some = ltb-false _ _ a.0; few = omega (arith, few); fits = ltb-false _ _ b.1 }) in
-        number-whole input w ∙ ap (λ (r : NumberedReading). r.refusal) (sheets.stored (sheet_in input) f).reading
+        let n = number-whole input w ∙ ap (λ (r : NumberedReading). r.refusal) (sheets.stored (sheet_in input) f).reading in
+        (n, same_log input n f)
 
 -- ---- what it made of an input that is accepted now
 

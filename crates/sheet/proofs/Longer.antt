@@ -1,13 +1,13 @@
 -- A panel in longer arrays: it is built by the same calls, as long as the shorter arrays have room.
 use Prim.Native.Nat.{ℕ, ◌+◌, ◌-◌, ◌≤◌, ◌<◌}
-use mathlib.Core.Path.{◌≡◌, refl, sym, ap, ◌∙◌}
+use mathlib.Core.Path.{◌≡◌, refl, ap, ◌∙◌}
 use mathlib.Core.Bool.{Bool, true, false, cond}
-use mathlib.Core.List.{List, [], ◌∷◌, ◌++◌}
+use mathlib.Core.List.{List, [], ◌∷◌}
 use native.Mathlib.Omega.{arith}
 use borrow.Author.Tests.{lt-leb}
-use lib.Dec.{ltb}
+use lib.Dec.{leb, ltb}
 use lib.Ieee.{Float}
-use lib.ListN.{length, take, get_or, length-take, length-set}
+use lib.ListN.{length, get_or, length-take, length-set}
 use lib.Seq.{take-append-le}
 use Rattle.std.proofs.lemmas.List.{set-append_left, length-replicate, replicate-append-replicate}
 use Rattle.float32.specs.Helpers.{from_bits}
@@ -64,7 +64,9 @@ module _ (t : Timeline) (n : ℕ) (o : Old t n) (room : n < old_max_entries) whe
   module _ (label : List ℕ) (start duration : Float) where
     set_same : grown (longer_panel t) label start duration ≡ longer_panel (grown t label start duration)
     set_same =
-        rw (set-append_left t.track.entries (more_slots blank) t.track.count (new_entry start duration) (omega (arith, o.few, o.entries)), set-append_left t.labels (more_slots blank_label) t.track.count (label_of label) (omega (arith, o.few, o.labels)))
+        let es = set-append_left t.track.entries (more_slots blank) t.track.count (new_entry start duration) (omega (arith, o.few, o.entries)) in
+        let ls = set-append_left t.labels (more_slots blank_label) t.track.count (label_of label) (omega (arith, o.few, o.labels)) in
+        rw (es, ls)
 
     set_old : Old (grown t label start duration) (n + 1)
     set_old =
@@ -84,11 +86,14 @@ module _ (t : Timeline) (n : ℕ) (o : Old t n) (room : n < old_max_entries) whe
     added start' e =
         rw (e, lt-leb max_entries t.track.count (omega (arith, o.few))) (either (ltb max_label (length label)))
 
+  not_full : leb old_max_entries t.track.count ≡ false
+  not_full = lt-leb old_max_entries t.track.count (omega (arith, o.few))
+
   added_by : (call : Call) → adds call ≡ true → Added (old_step t call).timeline (step (longer_panel t) call).timeline
   unfolding old_step step
-  added_by (Add label at duration) e = rw (lt-leb old_max_entries t.track.count (omega (arith, o.few))) (added label (resolve_start t at) duration _ (same_start at))
-  added_by (AddBoxed label at duration) e = rw (lt-leb old_max_entries t.track.count (omega (arith, o.few))) (added label (resolve_start t at) duration _ (same_start at))
-  added_by (AddAtLabel label target duration) e = rw (lt-leb old_max_entries t.track.count (omega (arith, o.few))) (added label (named_start t target) duration _ (same_named target))
+  added_by (Add label at duration) e = rw not_full (added label (resolve_start t at) duration _ (same_start at))
+  added_by (AddBoxed label at duration) e = rw not_full (added label (resolve_start t at) duration _ (same_start at))
+  added_by (AddAtLabel label target duration) e = rw not_full (added label (named_start t target) duration _ (same_named target))
   added_by (On call) e = cc
 
 either_adds : (b : Bool) (x y : Call) → adds x ≡ true → adds y ≡ true → adds (cond b x y) ≡ true
@@ -103,14 +108,20 @@ call_adds items End x = refl
 call_adds items (Labeled k) x = either_adds (ltb k (length items)) (AddAtLabel (text x.label) (text (get_or items k no_item).label) (from_bits x.duration)) (placed_call x) refl refl
 call_adds items (Offset seconds) x = refl
 
+-- the panel t of before, and the same in longer arrays
+pub record Longer (t u : Timeline) : Type 0 where
+  pub same : u ≡ longer_panel t
+  pub few : t.track.count ≤ old_max_entries
+  pub entries : length t.track.entries ≡ old_max_entries
+
 -- entries that have room
-entries_longer : (items xs : List Item) (t : Timeline) (n : ℕ) → Old t n → n + length xs ≤ old_max_entries → after (longer_panel t) (calls_from items xs) ≡ longer_panel (old_after t (calls_from items xs))
+entries_longer : (items xs : List Item) (t : Timeline) (n : ℕ) → Old t n → n + length xs ≤ old_max_entries → Longer (old_after t (calls_from items xs)) (after (longer_panel t) (calls_from items xs))
 unfolding calls_from after old_after
-entries_longer items [] t n o h = refl
+entries_longer items [] t n o h = record { same = refl; few = omega (arith, o.few); entries = o.entries }
 entries_longer items (x ∷ xs) t n o h =
     let a = added_by t n o (omega arith) (call_at items x.at x) (call_adds items x.at x) in
-    ap (λ (u : Timeline). after u (calls_from items xs)) a.same
-    ∙ entries_longer items xs (old_step t (call_at items x.at x)).timeline (n + 1) a.old (omega arith)
+    let r = entries_longer items xs (old_step t (call_at items x.at x)).timeline (n + 1) a.old (omega arith) in
+    record { same = ap (λ (u : Timeline). after u (calls_from items xs)) a.same ∙ r.same; few = r.few; entries = r.entries }
 
 empty_longer : empty ≡ longer_panel old_empty
 unfolding empty empty_track old_empty
@@ -120,7 +131,7 @@ empty_longer =
     rw (es, ls)
 
 -- what a description with few entries builds
-pub built_longer : (d : Description) → d.count ≤ old_max_entries → d.count ≤ length d.items → built (longer_description d) ≡ longer_panel (old_built d)
+pub built_longer : (d : Description) → d.count ≤ old_max_entries → d.count ≤ length d.items → Longer (old_built d) (built (longer_description d))
 unfolding calls_of after old_after old_step step track_step old_empty
 built_longer d h l =
     let t = (old_step (old_step old_empty (On (Looping d.looping))).timeline (On (SetTimeScale (from_bits d.time_scale)))).timeline in

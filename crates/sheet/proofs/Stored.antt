@@ -1,12 +1,12 @@
 -- Sheets of before: whatever the old checks accept is read and written as it was; and what those checks answer to a longer sheet.
 use Prim.Native.Nat.{ℕ, ◌+◌, ◌-◌, ◌≤◌, ◌<◌}
-use mathlib.Core.Path.{◌≡◌, refl, sym, ap, ◌∙◌}
+use mathlib.Core.Path.{◌≡◌, refl, ap, ◌∙◌}
 use mathlib.Core.Bool.{Bool, true, false, cond}
 use mathlib.Core.List.{List, ◌++◌, append_assoc}
 use native.Mathlib.Omega.{arith}
-use borrow.Author.Tests.{leb-true, ltb-false, ltb-true, le-ltb, lt-ltb, eqb-true, eqb-false, eq-eqb}
+use borrow.Author.Tests.{ltb-false, ltb-true, le-ltb, lt-ltb, eqb-true, eq-eqb}
 use lib.Dec.{eqb, ltb}
-use lib.ListN.{length, drop, replicate, length-append}
+use lib.ListN.{drop, replicate, length-append}
 use Rattle.std.proofs.lemmas.List.{replicate-append-replicate}
 use Rattle.refusal.specs.Refusal.{sheet_count, sheet_zero, refused_if}
 use Rattle.refusal.proofs.Checks.{passed, passed_good, in_turn_lem}
@@ -17,10 +17,10 @@ use Rattle.sheet_format.specs.Check.{records_at, count_in, check_number}
 use Rattle.sheet_format.specs.Descriptions.{blank_item, description_in}
 use Rattle.sheet_format.proofs.Accepted.{Header, Accepted, accepted-sheet}
 use Rattle.sheet.specs.Build.{built, reading_of}
-use Rattle.sheet.specs.Stored.{old_max_entries, old_count_in, old_header_number, old_check_number, old_items, old_description_in, old_built, old_reading_in, more_slots, longer_description, longer_panel, longer_reading}
+use Rattle.sheet.specs.Stored.{old_max_entries, old_count_in, old_header_number, old_check_number, old_items, old_description_in, old_built, old_reading_in, more_slots, longer_description, longer_reading}
 use Rattle.sheet.specs.Claim.{MeetsOldReader}
 use Rattle.sheet.proofs.Rewrite.{length-itemsFrom}
-use Rattle.sheet.proofs.Longer.{built_longer}
+use Rattle.sheet.proofs.Longer.{Longer, built_longer}
 
 -- ---- what the old checks accept
 
@@ -70,7 +70,7 @@ module _ (s : List ℕ) (h : OldHeader s) where
   unfolding description_in old_description_in
   described = rw (h.count, append_assoc, slots (old_count_in s) blank_item (rw h.count at h.few))
 
-  built_old : built (longer_description (old_description_in s)) ≡ longer_panel (old_built (old_description_in s))
+  pub built_old : Longer (old_built (old_description_in s)) (built (longer_description (old_description_in s)))
   unfolding old_description_in
   built_old =
       let n = old_count_in s in
@@ -79,7 +79,7 @@ module _ (s : List ℕ) (h : OldHeader s) where
 
   pub reads_old : check_number s ≡ 0 → reading_of s ≡ longer_reading (old_reading_in s)
   unfolding reading_of
-  reads_old e = rw (e, described, built_old)
+  reads_old e = rw (e, described, built_old.same)
 
 -- ---- what the old checks answer to a sheet that is accepted now
 
