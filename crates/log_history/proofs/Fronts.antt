@@ -34,8 +34,16 @@ front_only (Some log) rest k h = rw (none-front rest k h, outcome-front log.trac
 
 -- ---- the front of the input
 
+-- an accepted sheet is not cut
+pub whole : (input : List ℕ) → sheet_number input ≡ 0 → Whole input
+whole input e = go (is_cut input) refl
+  where
+    go : (b : Bool) → is_cut input ≡ b → Whole input
+    go true c = let n = number_cut input c in absurd (omega arith)
+    go false c = uncut input c
+
 -- an input that is whole is not cut
-whole_uncut : (input : List ℕ) → Whole input → is_cut input ≡ false
+pub whole_uncut : (input : List ℕ) → Whole input → is_cut input ≡ false
 unfolding is_cut
 whole_uncut input w = rw (le-ltb (length input) 2 w.some, le-ltb max_sheet (word 2 input) w.few, le-ltb (length input) (2 + word 2 input) w.fits)
 
