@@ -31,7 +31,7 @@ pub const VERSION: u8 = 1;
 #[derive(Clone, Copy, Debug, PartialEq, Eq)]
 pub struct Header {
     pub version: u8,
-    pub count: u16,
+    pub count: usize,
     pub mode: u8,
     pub number: u32,
 }
@@ -54,15 +54,14 @@ impl Header {
         ensures number { number_in result ≡ header_refusal len self.version self.count self.mode self.number }
         ensures value { IfOk result (λ looping. looping ≡ loop_of self.mode self.number) }
     {
-        let n = usize::from(self.count);
         if self.version != VERSION {
             return Err(Refusal::SheetVersion);
         }
-        if n > MAX_ENTRIES {
+        if self.count > MAX_ENTRIES {
             return Err(Refusal::SheetCount);
         }
         let looping = self.loop_mode()?;
-        if len < HEADER_SIZE + (PAIR_SIZE + RECORD_SIZE) * n {
+        if len < HEADER_SIZE + (PAIR_SIZE + RECORD_SIZE) * self.count {
             return Err(Refusal::SheetLength);
         }
         Ok(looping)
