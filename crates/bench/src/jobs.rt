@@ -1,4 +1,5 @@
 // The jobs: what is called, on which entries.
+use completions::MOST_ENTRIES;
 use timeline::timeline::{At, Timeline};
 use tween::Loop;
 
@@ -57,6 +58,14 @@ impl Job {
             Job::UpdateOnceTenths => base * 0.1,
             Job::LongestWalk => 0.09375,
             _ => base,
+        }
+    }
+
+    // How many places of the list are lent. The walk outnumbers 256.
+    pub(crate) fn listed(self) -> usize {
+        match self {
+            Job::LongestWalk => MOST_ENTRIES,
+            _ => 2 * MOST_ENTRIES,
         }
     }
 
