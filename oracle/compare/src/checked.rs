@@ -16,7 +16,8 @@ use std::sync::Arc;
 const ACCEPTED: u8 = 0;
 /// "1: an entry past the 64th, by `add`, sequence, `stagger` or group."
 const TOO_MANY_ENTRIES: u8 = 1;
-const MAX_ENTRIES: usize = 64;
+/// S-2: "1 and 8 move to 256".
+pub const MAX_ENTRIES: usize = 256;
 /// "2: an entry's own label above 24 bytes (after 1)".
 const LABEL_TOO_LONG: u8 = 2;
 const MAX_LABEL: usize = 24;
