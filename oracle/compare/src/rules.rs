@@ -1,21 +1,11 @@
 //! Cases worked out by hand from paper 01, in rules.txt: bytes of a script, and the text that answers
 //! it. They hold the rules that stand around the Rust, so that no misreading stands on both sides.
 
-use crate::call::Reader;
-
 pub struct Case {
     #[cfg_attr(not(test), expect(dead_code))]
     pub name: String,
     pub bytes: Vec<u8>,
     pub expected: String,
-}
-
-impl Case {
-    /// The bytes of the calls that the case makes.
-    pub fn kinds(&self) -> impl Iterator<Item = usize> {
-        let mut rest = Reader(&self.bytes);
-        std::iter::from_fn(move || rest.call().map(|call| call.byte().into()))
-    }
 }
 
 /// rules.txt: `=` and a name start a case, `#` a comment; after `:` are the script's bytes; every
