@@ -17,8 +17,9 @@ use tween::{GridOrigin, StaggerPattern};
 fn main(rt: HostRuntime) {
     let stdout = rt.stdout();
     edges_hold();
-    line(stdout, "64 entries", number_in(&filled(64)));
-    line(stdout, "65 entries", number_in(&filled(65)));
+    for n in [64, 65, 255, 256, 257] {
+        filled_to(stdout, n);
+    }
     line(
         stdout,
         "label of 24",
@@ -51,6 +52,11 @@ fn filled(n: usize) -> Result<Timeline, Refusal> {
         t = t.add(b"a", At::End, 1.0)?;
     }
     Ok(t)
+}
+
+// A line for a panel of n entries.
+fn filled_to(stdout: Stdout, n: usize) {
+    println!(stdout; "{n} entries: {}", number_in(&filled(n))).is_ok();
 }
 
 // An entry with this label.

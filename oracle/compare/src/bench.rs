@@ -1,6 +1,7 @@
 //! The Rust's side of the benchmark: makes the calls of the port's program `bench`, and prints what it
 //! prints. tools/bench times the two beside each other.
 
+use crate::checked::MAX_ENTRIES;
 use animato_core::{Playable, Update};
 use animato_timeline::{At, Timeline};
 use animato_tween::Loop;
@@ -40,23 +41,20 @@ const JOBS: [Job; 9] = [
     Job::LongestWalk,
 ];
 
-/// As many as a byte can tell apart.
-const MOST: usize = 256;
-
 /// What is sent to the leaves in one call, where they record it: a row for each.
 struct Rows {
-    kinds: [Cell<u8>; MOST],
-    amounts: [Cell<f32>; MOST],
-    places: [Cell<f32>; MOST],
+    kinds: [Cell<u8>; MAX_ENTRIES],
+    amounts: [Cell<f32>; MAX_ENTRIES],
+    places: [Cell<f32>; MAX_ENTRIES],
 }
 
 // The leaves have to be `Send`; they and the look are in one thread.
 unsafe impl Sync for Rows {}
 
 static ROWS: Rows = Rows {
-    kinds: [const { Cell::new(0) }; MOST],
-    amounts: [const { Cell::new(0.0) }; MOST],
-    places: [const { Cell::new(0.0) }; MOST],
+    kinds: [const { Cell::new(0) }; MAX_ENTRIES],
+    amounts: [const { Cell::new(0.0) }; MAX_ENTRIES],
+    places: [const { Cell::new(0.0) }; MAX_ENTRIES],
 };
 
 impl Rows {
@@ -88,13 +86,18 @@ struct Run {
     seen: u32,
 }
 
-/// Reads which job, how many entries and how many calls, and prints the bits of what they come to. The
-/// job's number has 10 more where all rows are looked at after every call.
+/// Reads which job (a byte), how many entries (two) and how many calls (four, the lowest first), and
+/// prints the bits of what they come to. The job's number has 10 more where all rows are looked at after
+/// every call.
 pub fn run() -> Result<(), String> {
-    let mut input = [0; 6];
+    let mut input = [0; 7];
     let read = io::stdin().read_exact(&mut input);
     read.map_err(|e| e.to_string())?;
-    let [job, entries, turns @ ..] = input;
+    let [job, low, high, turns @ ..] = input;
+    let entries = u16::from_le_bytes([low, high]);
+    if usize::from(entries) > MAX_ENTRIES {
+        return Err(format!("bench: {entries} entries"));
+    }
     let looks = job > 9;
     let job = JOBS
         .get(usize::from(job % 10))
@@ -116,7 +119,7 @@ fn come_to(job: Job, looks: bool, entries: u32, turns: u32) -> (f32, u32) {
         looks,
         seen: 0,
     };
-    ROWS.look(MOST, 0);
+    ROWS.look(MAX_ENTRIES, 0);
     match job {
         Job::UpdateOnceSmall => run.updates(turns, base / turns as f32 * 0.9),
         Job::UpdateOnceTenths => run.updates(turns, base * 0.1),

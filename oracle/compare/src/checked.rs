@@ -16,7 +16,9 @@ use std::sync::Arc;
 const ACCEPTED: u8 = 0;
 /// "1: an entry past the 64th, by `add`, sequence, `stagger` or group."
 const TOO_MANY_ENTRIES: u8 = 1;
-const MAX_ENTRIES: usize = 64;
+/// S-2: "1 and 8 move to 256". What was the limit before is here where long panels begin.
+pub const MAX_ENTRIES: usize = 256;
+pub const SHORT_PANEL: usize = 64;
 /// "2: an entry's own label above 24 bytes (after 1)".
 const LABEL_TOO_LONG: u8 = 2;
 const MAX_LABEL: usize = 24;
@@ -117,7 +119,7 @@ impl Checked {
         answer
     }
 
-    fn count(&self) -> usize {
+    pub fn count(&self) -> usize {
         self.twins.entries().len()
     }
 
@@ -228,7 +230,7 @@ impl Checked {
     /// The completions of an update that walks over cycles, counted as the Rust does but no further
     /// than to `MOST_LISTED + 1`: the Rust collects thousands of millions of labels if it is let.
     /// Where it is let, its own list is what counts, and must have as many.
-    fn count_ahead(&self, dt: f32) -> Option<usize> {
+    pub fn count_ahead(&self, dt: f32) -> Option<usize> {
         let twins = &self.twins;
         let (prev, next) = (twins.elapsed(), twins.next_elapsed(dt));
         let walks = twins.state() == TimelineState::Playing

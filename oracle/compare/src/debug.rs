@@ -2,7 +2,7 @@
 //! whether the whole-run completion has fired.
 
 use animato_timeline::Timeline;
-use std::fmt::Write;
+use std::fmt::{self, Write};
 
 #[derive(Clone, PartialEq, Debug)]
 pub struct Entry {
@@ -44,17 +44,48 @@ pub fn entries(timeline: &Timeline) -> Vec<Entry> {
     entries
 }
 
-/// The marks, and whether the whole-run completion has fired, of a timeline whose labels are numbers.
-pub fn marks(timeline: &Timeline, text: &mut String) -> (Vec<bool>, bool) {
-    text.clear();
-    write!(text, "{timeline:?}").expect("a string takes all");
-    let marked = |(at, name): (usize, &str)| text[at + name.len()..].starts_with("true");
-    (
-        text.match_indices(" completed: ").map(marked).collect(),
-        text.rmatch_indices(" complete_fired: ")
-            .next()
-            .is_some_and(marked),
-    )
+/// The marks, and whether the whole-run completion has fired. Of all the output only these flags are
+/// kept, in a string that can serve again.
+pub fn marks(timeline: &Timeline, kept: &mut String) -> (Vec<bool>, bool) {
+    kept.clear();
+    let mut flags = Flags {
+        seen: Seen::Other,
+        kept,
+    };
+    write!(flags, "{timeline:?}").expect("flags take all");
+    let mut marks: Vec<bool> = kept.bytes().map(|flag| flag == b't').collect();
+    let fired = marks.pop().expect("the last flag");
+    assert_eq!(marks.len(), timeline.entry_count());
+    (marks, fired)
+}
+
+/// Keeps the first letters of the flags. A field's name, what is between, and a flag are each written
+/// as one part; a label stands in quotes, which are parts of their own.
+struct Flags<'a> {
+    seen: Seen,
+    kept: &'a mut String,
+}
+
+#[derive(PartialEq)]
+enum Seen {
+    Name,
+    Colon,
+    Other,
+}
+
+impl Write for Flags<'_> {
+    fn write_str(&mut self, part: &str) -> fmt::Result {
+        self.seen = match part {
+            "completed" | "complete_fired" => Seen::Name,
+            ": " if self.seen == Seen::Name => Seen::Colon,
+            "true" | "false" if self.seen == Seen::Colon => {
+                self.kept.push_str(&part[..1]);
+                Seen::Other
+            }
+            _ => Seen::Other,
+        };
+        Ok(())
+    }
 }
 
 struct Scan<'a>(&'a str);
@@ -129,7 +160,9 @@ impl Scan<'_> {
 mod tests {
     use super::*;
     use crate::leaf::Leaf;
+    use animato_core::Update;
     use animato_timeline::At;
+    use std::sync::Arc;
 
     #[test]
     fn every_byte_comes_back_from_a_label() {
@@ -140,6 +173,35 @@ mod tests {
         let read = entries(&timeline);
         assert!(labels.iter().eq(read.iter().map(|entry| &entry.label)));
         assert_eq!((read[2].start, read[2].duration), (3.0, 1.5));
+    }
+
+    #[test]
+    fn marks_are_told_from_labels() {
+        let labels = [
+            "completed",
+            "completed: true",
+            ": ",
+            "true",
+            "complete_fired",
+        ];
+        let marks_at = |secs: f32| {
+            let (mut timeline, mut records) = (Timeline::new(), Vec::new());
+            for label in labels {
+                let leaf = Leaf::new(1.0);
+                records.push(Arc::clone(&leaf.record));
+                timeline = timeline.add(label, leaf, At::End);
+                timeline = timeline.on_entry_complete(label, || ());
+            }
+            timeline.play();
+            records.iter().for_each(|record| record.clear());
+            timeline.update(secs);
+            marks(&timeline, &mut String::new())
+        };
+        assert_eq!(
+            marks_at(2.5),
+            (vec![true, true, false, false, false], false)
+        );
+        assert_eq!(marks_at(5.0), (vec![true; 5], true));
     }
 
     #[test]

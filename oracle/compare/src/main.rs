@@ -48,7 +48,7 @@ const USAGE: &str = "usage:
   oracle sample
   oracle trace | trace-text | trace-digests
   oracle traces [--seed N] [--scripts N] [--least-calls N] [--calls KINDS] [--port COMMAND]
-  oracle trace-sample [--calls KINDS]
+  oracle trace-sample
   oracle sheets [--seed N] [--sheets N] [--least N] [--port COMMAND]
   oracle sheet-answers
   oracle sheet-sample
@@ -106,7 +106,7 @@ fn run(words: &[&str]) -> Result<(), String> {
                 port: Port(options.get("--port").map(String::from)),
             })
         }
-        "trace-sample" => traces::write_sample(Options::read(words, &["--calls"])?.kinds()?),
+        "trace-sample" => Options::read(words, &[]).and_then(|_| traces::write_sample()),
         "sheets" => {
             let options = Options::read(words, &["--seed", "--sheets", "--least", "--port"])?;
             sheets::compare(&sheets::Options {

@@ -1,8 +1,6 @@
 //! Cases worked out by hand from paper 01, in rules.txt: bytes of a script, and the text that answers
 //! it. They hold the rules that stand around the Rust, so that no misreading stands on both sides.
 
-use crate::call::Reader;
-
 pub struct Case {
     #[cfg_attr(not(test), expect(dead_code))]
     pub name: String,
@@ -10,17 +8,10 @@ pub struct Case {
     pub expected: String,
 }
 
-impl Case {
-    /// The bytes of the calls that the case makes.
-    pub fn kinds(&self) -> impl Iterator<Item = usize> {
-        let mut rest = Reader(&self.bytes);
-        std::iter::from_fn(move || rest.call().map(|call| call.byte().into()))
-    }
-}
-
 /// rules.txt: `=` and a name start a case, `#` a comment; after `:` are the script's bytes; every
-/// other line is one of the text, with `{x}` for the bits of the float x and `[n*t]` for n times t,
-/// in which `%` is `item_` and the index, in hex.
+/// other line is one of the text, with `{x}` for the bits of the float x (`{x+y}`, `{x-y}`).
+/// `[n*t]` is t n times, for the indices from 0, and `[m..n*t]` from m; in t, `#` is the index, and in
+/// the text `%` is `item_` and the index, in hex.
 pub fn cases() -> Vec<Case> {
     let mut cases: Vec<Case> = Vec::new();
     for line in include_str!("rules.txt").lines() {
@@ -37,7 +28,7 @@ pub fn cases() -> Vec<Case> {
         }
         let case = cases.last_mut().expect("a name comes first");
         match line.strip_prefix(": ") {
-            Some(words) => words
+            Some(words) => repeated(words)
                 .split_whitespace()
                 .for_each(|word| put(&mut case.bytes, word)),
             None => case.expected += &(text_line(line) + "\n"),
@@ -88,16 +79,33 @@ fn number(word: &str) -> u32 {
     word.parse().unwrap_or_else(|_| panic!("a number: {word}"))
 }
 
+/// A float, or the sum or the difference of two.
 fn float(word: &str) -> f32 {
-    word.parse().unwrap_or_else(|_| panic!("a float: {word}"))
+    let two = |sign, sum: fn(f32, f32) -> f32| {
+        let (a, b) = word.split_once(sign)?;
+        Some(sum(a.parse().ok()?, b.parse().ok()?))
+    };
+    let one = word.parse().ok();
+    one.or_else(|| two('+', |a, b| a + b))
+        .or_else(|| two('-', |a, b| a - b))
+        .unwrap_or_else(|| panic!("a float: {word}"))
 }
 
 fn text_line(line: &str) -> String {
-    let line = replaced(line, ['{', '}'], |x| format!("{:08x}", float(x).to_bits()));
-    replaced(&line, ['[', ']'], |part| {
+    replaced(&repeated(line), ['{', '}'], |x| {
+        format!("{:08x}", float(x).to_bits())
+    })
+}
+
+fn repeated(line: &str) -> String {
+    replaced(line, ['[', ']'], |part| {
         let (times, text) = part.split_once('*').expect("a star");
-        let item = |index| text.replace('%', &hex(&format!("item_{index}")));
-        (0..number(times)).map(item).collect()
+        let (from, to) = times.split_once("..").unwrap_or(("0", times));
+        let item = |index: u32| {
+            text.replace('%', &hex(&format!("item_{index}")))
+                .replace('#', &index.to_string())
+        };
+        (number(from)..number(to)).map(item).collect()
     })
 }
 

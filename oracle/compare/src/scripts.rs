@@ -3,8 +3,11 @@
 
 use crate::call::{Add, Call, Item, Lent, Mode, NAMES, Pattern, Place, Update};
 use crate::cases;
-use crate::checked::Checked;
+use crate::checked::{MAX_ENTRIES, SHORT_PANEL};
 use crate::rng::Rng;
+use crate::tally::Tally;
+use crate::trace::{self, Running};
+use crate::twins::Twins;
 use animato_timeline::TimelineState;
 
 /// Which calls are in the scripts, by their bytes.
@@ -14,6 +17,8 @@ pub struct Kinds([bool; NAMES.len()]);
 /// The calls that come with `update`, and those that come with the builders.
 const UPDATE: [usize; 2] = [4, 11];
 const BUILDERS: [usize; 7] = [13, 14, 16, 17, 18, 19, 20];
+/// Those that make entries.
+const ENTRIES: [usize; 7] = [8, 9, 16, 17, 18, 19, 20];
 
 impl Kinds {
     pub fn all() -> Self {
@@ -43,6 +48,10 @@ impl Kinds {
 
     pub fn has(&self, kind: usize) -> bool {
         self.0[kind]
+    }
+
+    pub fn make_entries(&self) -> bool {
+        ENTRIES.iter().any(|&kind| self.has(kind))
     }
 }
 
@@ -104,24 +113,44 @@ const LABELS: [&[u8]; 11] = [
     b"123456789012345678901234",
 ];
 
-/// A random script of such calls.
-pub fn random(rng: &mut Rng, kinds: Kinds) -> Script {
+/// Steps of a script at most, and of one on a long panel.
+const STEPS: u32 = 40;
+const LONG_STEPS: u32 = 60;
+
+/// Items of a sequence: a byte counts them.
+const MOST_ITEMS: usize = 255;
+
+/// A random script, and what is written on it.
+pub struct Answered {
+    pub script: Script,
+    pub text: Vec<u8>,
+}
+
+/// A random script of such calls; a long one is on more than 64 entries.
+pub fn random(rng: &mut Rng, kinds: Kinds, long: bool, tally: &mut Tally) -> Answered {
     let unit = rng.pick(&UNITS);
     let mut made = Maker {
         rng,
         kinds,
         unit,
-        timeline: Checked::new(),
+        long,
+        running: Running::new(tally),
         noted: vec![0.0],
         calls: Vec::new(),
     };
     made.build();
-    for _ in 0..1 + made.rng.below(40) {
+    let steps = if long { LONG_STEPS } else { STEPS };
+    for _ in 0..1 + made.rng.below(steps) {
         made.step();
     }
-    Script {
-        tail: made.tail(),
-        calls: made.calls,
+    let tail = made.tail();
+    made.running.rest(trace::Script::whole(&tail));
+    Answered {
+        script: Script {
+            calls: made.calls,
+            tail,
+        },
+        text: made.running.text,
     }
 }
 
@@ -129,7 +158,8 @@ struct Maker<'a> {
     rng: &'a mut Rng,
     kinds: Kinds,
     unit: f32,
-    timeline: Checked,
+    long: bool,
+    running: Running<'a>,
     /// Seconds that the script has been at.
     noted: Vec<f32>,
     calls: Vec<Call>,
@@ -138,10 +168,14 @@ struct Maker<'a> {
 impl Maker<'_> {
     fn push(&mut self, call: Call) {
         if self.kinds.has(call.byte().into()) {
-            self.timeline.call(&call);
-            self.noted.push(self.timeline.twins.elapsed());
+            self.running.call(&call);
+            self.noted.push(self.twins().elapsed());
             self.calls.push(call);
         }
+    }
+
+    fn twins(&self) -> &Twins {
+        &self.running.timeline.twins
     }
 
     fn one_in(&mut self, n: u32) -> bool {
@@ -150,21 +184,10 @@ impl Maker<'_> {
 
     /// Entries, a mode, a scale.
     fn build(&mut self) {
-        let count = match self.rng.below(32) {
-            0 => 0,
-            1..=7 => 1 + self.rng.below(2),
-            8..=24 => 1 + self.rng.below(8),
-            25..=29 => self.rng.below(24),
-            _ => 62 + self.rng.below(8),
-        };
-        if self.one_in(4) {
-            let call = self.builder(count as usize);
-            self.push(call);
+        if self.long {
+            self.make_long();
         } else {
-            for _ in 0..count {
-                let call = self.adder();
-                self.push(call);
-            }
+            self.make_short();
         }
         if !self.one_in(4) {
             let call = Call::Looping(self.mode());
@@ -180,8 +203,56 @@ impl Maker<'_> {
         }
     }
 
+    fn make_short(&mut self) {
+        let count = match self.rng.below(32) {
+            0 => 0,
+            1..=7 => 1 + self.rng.below(2),
+            8..=24 => 1 + self.rng.below(8),
+            25..=29 => self.rng.below(24),
+            _ => 62 + self.rng.below(8),
+        };
+        if self.one_in(4) {
+            let call = self.builder(count as usize);
+            self.push(call);
+        } else {
+            self.add_up_to(count as usize);
+        }
+    }
+
+    /// Most by a builder, since each entry that is added has all of them written; the last by adds.
+    fn make_long(&mut self) {
+        let count = self.long_count();
+        if !self.one_in(32) {
+            let built = count - self.rng.below(4) as usize;
+            let call = self.builder(built);
+            self.push(call);
+            if self.count() == 0 {
+                let call = self.builder(built.min(MAX_ENTRIES));
+                self.push(call);
+            }
+        }
+        self.add_up_to(count);
+    }
+
+    fn long_count(&mut self) -> usize {
+        let count = match self.rng.below(8) {
+            0..=2 => 64 + self.rng.below(6),
+            3 => 126 + self.rng.below(5),
+            4 => 65 + self.rng.below(192),
+            _ => 253 + self.rng.below(6),
+        };
+        count as usize
+    }
+
+    fn add_up_to(&mut self, count: usize) {
+        for _ in self.count()..count {
+            let call = self.adder();
+            self.push(call);
+        }
+    }
+
     fn step(&mut self) {
-        let playing = self.timeline.twins.state() == TimelineState::Playing;
+        let playing = self.twins().state() == TimelineState::Playing;
         if !playing && self.one_in(3) {
             let (play, resume) = (Call::Play(self.lent()), Call::Resume);
             let call = if self.one_in(4) { resume } else { play };
@@ -204,6 +275,10 @@ impl Maker<'_> {
             13 => Call::IntrospectGroup,
             14 => Call::Reverse(self.lent()),
             15 => Call::Delay(self.pattern(), self.index()),
+            _ if self.long && !self.one_in(4) => {
+                let count = self.long_count();
+                self.builder(count)
+            }
             _ => {
                 let most = if self.one_in(8) { 70 } else { 10 };
                 let count = self.rng.below(most);
@@ -252,7 +327,7 @@ impl Maker<'_> {
         let call = Call::Update(Update {
             dt,
             lent: self.lent(),
-            list: self.list(),
+            list: self.list(dt),
             replies: self.replies(),
         });
         self.push(call);
@@ -282,21 +357,37 @@ impl Maker<'_> {
     }
 
     fn builder(&mut self, count: usize) -> Call {
-        let durations = |made: &mut Self| (0..count).map(|_| made.duration()).collect();
         match self.rng.below(6) {
-            0 => Call::Stagger(self.seconds(), durations(self)),
-            1 => Call::GroupParallel(durations(self)),
-            2 => Call::GroupSequence(durations(self)),
-            3 => Call::GroupStagger(self.pattern(), durations(self)),
-            _ => Call::Sequence((0..count * 3 / 2).map(|_| self.item()).collect()),
+            0 => Call::Stagger(self.seconds(), self.durations(count)),
+            1 => Call::GroupParallel(self.durations(count)),
+            2 => Call::GroupSequence(self.durations(count)),
+            3 => Call::GroupStagger(self.pattern(), self.durations(count)),
+            _ if count * 3 / 2 > MOST_ITEMS => {
+                Call::Sequence(self.items(count.min(MOST_ITEMS), 64))
+            }
+            _ => Call::Sequence(self.items(count * 3 / 2, 4)),
         }
     }
 
-    fn item(&mut self) -> Item {
-        match self.rng.below(4) {
-            0 | 1 => Item::Then(self.label(), self.duration()),
-            2 => Item::ThenFor(self.label(), self.duration(), self.duration()),
-            _ => Item::Gap(self.seconds()),
+    fn durations(&mut self, count: usize) -> Vec<f32> {
+        if self.long && self.one_in(4) {
+            return vec![self.everyday(); count];
+        }
+        (0..count).map(|_| self.duration()).collect()
+    }
+
+    /// Of so many items one is a gap.
+    fn items(&mut self, count: usize, gap: u32) -> Vec<Item> {
+        (0..count).map(|_| self.item(gap)).collect()
+    }
+
+    fn item(&mut self, gap: u32) -> Item {
+        if self.one_in(gap) {
+            Item::Gap(self.seconds())
+        } else if self.one_in(3) {
+            Item::ThenFor(self.label(), self.duration(), self.duration())
+        } else {
+            Item::Then(self.label(), self.duration())
         }
     }
 
@@ -325,11 +416,16 @@ impl Maker<'_> {
     fn index(&mut self) -> u32 {
         match self.rng.below(4) {
             0 => cases::word(self.rng),
+            1 if self.long => self.rng.below(300),
             _ => self.rng.below(40),
         }
     }
 
     fn label(&mut self) -> Vec<u8> {
+        if self.is_long() && self.one_in(4) {
+            let count = self.count() as u32;
+            return format!("item_{}", self.rng.below(count)).into();
+        }
         match self.rng.below(32) {
             0 => (0..self.rng.below(27))
                 .map(|_| self.rng.bits() as u8)
@@ -349,12 +445,17 @@ impl Maker<'_> {
         }
     }
 
-    fn count(&self) -> u16 {
-        self.timeline.twins.entries().len() as u16
+    fn count(&self) -> usize {
+        self.running.timeline.count()
+    }
+
+    /// Whether there are more than 64 entries, in a script that is to have them.
+    fn is_long(&self) -> bool {
+        self.long && self.count() > SHORT_PANEL
     }
 
     fn lent(&mut self) -> Lent {
-        let count = self.count();
+        let count = self.count() as u16;
         let more = match self.rng.below(8) {
             0 => 2,
             1 => 1,
@@ -376,6 +477,9 @@ impl Maker<'_> {
     }
 
     fn other_length(&mut self, count: u16) -> u16 {
+        if self.is_long() && self.one_in(4) {
+            return self.rng.pick(&[1, 63, 64, 65, 128, 255, 256, 257, 300]);
+        }
         match self.rng.below(40) {
             0 => self.rng.pick(&[299, 300, 301, 65_535]),
             1..=4 => 0,
@@ -384,8 +488,17 @@ impl Maker<'_> {
         }
     }
 
-    fn list(&mut self) -> u16 {
-        let count = u32::from(self.count());
+    fn list(&mut self, dt: f32) -> u16 {
+        if self.is_long() && self.one_in(2) {
+            let due = self.due(dt) as u16;
+            return match self.rng.below(4) {
+                0 => self.rng.pick(&[63, 64, 65, 255, 256, 257]),
+                1 => due.saturating_sub(1),
+                2 => due + 1,
+                _ => due,
+            };
+        }
+        let count = self.count() as u32;
         let length = match self.rng.below(32) {
             0 => self.rng.pick(&[255, 256, 999, 1000, 1001, 65_535]),
             1..=4 => self.rng.below(3),
@@ -396,12 +509,33 @@ impl Maker<'_> {
         length as u16
     }
 
+    /// About how many entries an update completes.
+    fn due(&self, dt: f32) -> usize {
+        let (prev, next) = (self.twins().elapsed(), self.twins().next_elapsed(dt));
+        let ends = self
+            .twins()
+            .entries()
+            .iter()
+            .map(|entry| entry.start + entry.duration);
+        let counted = self.running.timeline.count_ahead(dt);
+        counted.unwrap_or_else(|| ends.filter(|&end| prev < end && end <= next).count())
+    }
+
     fn replies(&mut self) -> Vec<u8> {
-        let count = usize::from(self.count());
+        let count = self.count();
         let stops = self.rng.pick(&[0, 0, 0, 8, 2, 1]);
         let mut replies: Vec<u8> = (0..count)
             .map(|_| u8::from(stops == 0 || !self.one_in(stops)))
             .collect();
+        if self.is_long() && self.one_in(16) {
+            match self.rng.below(4) {
+                0 => replies.truncate(self.rng.pick(&[0, 64, 65, 128, 255])),
+                1 => replies[count - 1] = 2,
+                2 => replies[SHORT_PANEL] = 2,
+                _ => replies.resize(300, 2),
+            }
+            return replies;
+        }
         match self.rng.below(32) {
             0 => drop(replies.pop()),
             1 => replies.extend([0, 1, 2, 255]),
@@ -435,7 +569,7 @@ impl Maker<'_> {
     }
 
     fn share(&mut self) -> f32 {
-        let run = self.timeline.twins.run();
+        let run = self.twins().run();
         match self.rng.below(8) {
             0 => self.odd(),
             1 => self.rng.below(1 << 24) as f32 / (1 << 24) as f32,
@@ -453,7 +587,7 @@ impl Maker<'_> {
 
     /// A step that often goes to a landmark, or over some cycles.
     fn dt(&mut self) -> f32 {
-        let twins = &self.timeline.twins;
+        let twins = self.twins();
         let (elapsed, scale, base) = (twins.elapsed(), twins.time_scale(), twins.base());
         match self.rng.below(32) {
             0..=11 => {
@@ -484,9 +618,9 @@ impl Maker<'_> {
 
     /// A start, an end, the base, the run, some multiple of them, or seconds noted before.
     fn landmark(&mut self) -> f32 {
-        let count = self.timeline.twins.entries().len() as u32;
+        let count = self.count() as u32;
         let pick = if count == 0 { 0 } else { self.rng.below(count) };
-        let twins = &self.timeline.twins;
+        let twins = self.twins();
         let (base, run) = (twins.base(), twins.run());
         let (start, end) = match twins.entries().get(pick as usize) {
             Some(entry) => (entry.start, entry.start + entry.duration),

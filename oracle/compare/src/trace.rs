@@ -52,7 +52,8 @@ impl<'a> Script<'a> {
     }
 }
 
-fn next_script<'a>(rest: &mut &'a [u8]) -> Option<Script<'a>> {
+/// The next script of an input, as far as it is there.
+pub fn next_script<'a>(rest: &mut &'a [u8]) -> Option<Script<'a>> {
     if rest.is_empty() {
         return None;
     }
@@ -87,27 +88,56 @@ pub fn digest_line(text: &[u8]) -> Vec<u8> {
 
 /// What is written on a script, its first line left out.
 pub fn script_text(script: Script, tally: &mut Tally) -> Vec<u8> {
-    let mut out = Vec::new();
-    let mut timeline = Checked::new();
-    let mut rest = Reader(script.bytes);
-    let mut number = 0;
-    while !rest.at_end() {
-        let Some(call) = rest.call() else {
-            tally.cut += 1;
-            out.extend(b"cut\n");
-            return out;
-        };
-        number += 1;
-        tally.before(&timeline, &call);
-        let answer = timeline.call(&call);
-        tally.after(&timeline, &call, &answer);
-        call_lines(number, &call, &mut timeline, &answer, &mut out);
+    let mut running = Running::new(tally);
+    running.rest(script);
+    running.text
+}
+
+/// A script that runs, call by call, and what is written on it.
+pub struct Running<'a> {
+    pub timeline: Checked,
+    pub text: Vec<u8>,
+    calls: u32,
+    tally: &'a mut Tally,
+}
+
+impl<'a> Running<'a> {
+    pub fn new(tally: &'a mut Tally) -> Self {
+        Running {
+            timeline: Checked::new(),
+            text: Vec::new(),
+            calls: 0,
+            tally,
+        }
     }
-    if !script.whole {
-        tally.cut += 1;
-        out.extend(b"cut\n");
+
+    pub fn call(&mut self, call: &Call) {
+        let timeline = &mut self.timeline;
+        self.calls += 1;
+        self.tally.before(timeline, call);
+        let answer = timeline.call(call);
+        self.tally.after(timeline, call, &answer);
+        call_lines(self.calls, call, timeline, &answer, &mut self.text);
     }
-    out
+
+    /// What comes after the calls that were made.
+    pub fn rest(&mut self, script: Script) {
+        let mut rest = Reader(script.bytes);
+        while !rest.at_end() {
+            match rest.call() {
+                Some(call) => self.call(&call),
+                None => return self.cut(),
+            }
+        }
+        if !script.whole {
+            self.cut();
+        }
+    }
+
+    fn cut(&mut self) {
+        self.tally.cut += 1;
+        self.text.extend(b"cut\n");
+    }
 }
 
 fn call_lines(n: u32, call: &Call, timeline: &mut Checked, answer: &Answer, out: &mut Vec<u8>) {

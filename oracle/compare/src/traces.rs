@@ -5,15 +5,21 @@ use crate::call::{Call, Item, Lent, NAMES, Place};
 use crate::port::{self, Port};
 use crate::rng::Rng;
 use crate::rules;
-use crate::scripts::{self, Kinds, Script};
+use crate::scripts::{self, Answered, Kinds, Script};
 use crate::tally::Tally;
-use crate::trace::{self, DIGESTS, TEXT};
+use crate::trace::{self, DIGESTS, Running, TEXT};
 use std::fs;
+use std::iter;
+use std::ops::Range;
+use std::thread;
 
 pub const PROGRAM: &str = "trace";
 
 /// Scripts in one run of the program.
 const BATCH: u64 = 2000;
+
+/// One call in so many is made on more than 64 entries; a little more than a tenth.
+const LONG_SHARE: u64 = 9;
 
 pub struct Options {
     pub seed: u64,
@@ -24,20 +30,67 @@ pub struct Options {
 }
 
 /// Compares digests of random scripts, and of the first ones the whole text. At least `least_calls`
-/// calls must have been compared, and at least one in ten thousand of them of each kind.
+/// calls must have been compared, and at least one in ten thousand of them of each kind; and a tenth of
+/// all must have been made on more than 64 entries.
 pub fn compare(options: &Options) -> Result<(), String> {
-    let mut rng = Rng::new(options.seed);
-    let mut tally = Tally::default();
-    while tally.scripts < options.scripts {
-        let count = BATCH.min(options.scripts - tally.scripts);
-        let batch: Vec<Script> = (0..count)
-            .map(|_| scripts::random(&mut rng, options.kinds))
-            .collect();
-        compare_batch(&batch, &mut rng, options, &mut tally)?;
+    let mut maker = Maker {
+        rng: Rng::new(options.seed),
+        tally: Tally::default(),
+    };
+    let mut next = maker.batch(options);
+    if let Some(first) = &next {
+        compare_text(&first.scripts, options)?;
+    }
+    while let Some(batch) = next {
+        // The port answers a batch while the next one is made.
+        next = thread::scope(|scope| {
+            let compared = scope.spawn(|| compare_batch(&batch, options));
+            let next = maker.batch(options);
+            compared.join().expect("it ends").map(|()| next)
+        })?;
     }
     println!("{PROGRAM}: seed {}, no differences", options.seed);
-    print!("{tally}");
-    verdict(&tally, options)
+    print!("{}", maker.tally);
+    verdict(&maker.tally, options)
+}
+
+/// Scripts, their digests by the Rust, and how the input ends after them.
+struct Batch {
+    scripts: Vec<Script>,
+    expected: Vec<Vec<u8>>,
+    end: End,
+}
+
+struct Maker {
+    rng: Rng,
+    tally: Tally,
+}
+
+impl Maker {
+    /// The next batch, as long as there are scripts to be compared.
+    fn batch(&mut self, options: &Options) -> Option<Batch> {
+        let count = BATCH.min(options.scripts - self.tally.scripts);
+        if count == 0 {
+            return None;
+        }
+        let made: Vec<Answered> = (0..count).map(|_| self.script(options.kinds)).collect();
+        let expected = made.iter().map(|made| trace::digest_line(&made.text));
+        let expected = expected.collect();
+        let scripts: Vec<Script> = made.into_iter().map(|made| made.script).collect();
+        let end = damaged_end(&mut self.rng, &scripts);
+        Some(Batch {
+            scripts,
+            expected,
+            end,
+        })
+    }
+
+    /// A script, on a long panel where too few calls were made on such.
+    fn script(&mut self, kinds: Kinds) -> Answered {
+        let long = self.tally.long_calls() * LONG_SHARE <= self.tally.calls();
+        self.tally.scripts += 1;
+        scripts::random(&mut self.rng, kinds, long, &mut self.tally)
+    }
 }
 
 fn verdict(tally: &Tally, options: &Options) -> Result<(), String> {
@@ -53,34 +106,29 @@ fn verdict(tally: &Tally, options: &Options) -> Result<(), String> {
             return Err(format!("{PROGRAM}: too few calls of {name}"));
         }
     }
+    let (long, calls) = (tally.long_calls(), tally.calls());
+    if options.kinds.make_entries() && long * 10 < calls {
+        return Err(format!(
+            "{PROGRAM}: {long} of {calls} calls on more than 64 entries, fewer than a tenth"
+        ));
+    }
     Ok(())
 }
 
-fn compare_batch(
-    batch: &[Script],
-    rng: &mut Rng,
-    options: &Options,
-    tally: &mut Tally,
-) -> Result<(), String> {
-    if tally.scripts == 0 {
-        compare_text(batch, options)?;
-    }
-    let expected = digests(batch, tally);
-    let end = damaged_end(rng, batch);
-    let mut bytes = input(DIGESTS, batch);
-    bytes.extend(&end.bytes);
+fn compare_batch(batch: &Batch, options: &Options) -> Result<(), String> {
+    let mut bytes = input(DIGESTS, &batch.scripts);
+    bytes.extend(&batch.end.bytes);
     let output = options.port.run(PROGRAM, &bytes)?;
-    let mut lines: Vec<&[u8]> = output.split_inclusive(|&byte| byte == b'\n').collect();
-    for (index, script) in batch.iter().enumerate() {
-        if lines.get(index) != Some(&expected[index].as_slice()) {
+    let mut lines = output.split_inclusive(|&byte| byte == b'\n');
+    for (script, expected) in batch.scripts.iter().zip(&batch.expected) {
+        if lines.next() != Some(expected) {
             return Err(shown(&smallest(script, options)?, options)?);
         }
     }
-    let rest = lines.split_off(batch.len()).concat();
-    if rest != end.expected {
+    if lines.collect::<Vec<_>>().concat() != batch.end.expected {
         return Err(format!(
             "{PROGRAM}: an input that ends so: {:02x?}",
-            end.bytes
+            batch.end.bytes
         ));
     }
     Ok(())
@@ -133,19 +181,18 @@ fn input(form: u8, batch: &[Script]) -> Vec<u8> {
     bytes
 }
 
-/// The Rust's digests.
-fn digests(batch: &[Script], tally: &mut Tally) -> Vec<Vec<u8>> {
-    let digest = |script: &Script| {
-        tally.scripts += 1;
-        let bytes = script.bytes();
-        trace::digest_line(&trace::script_text(trace::Script::whole(&bytes), tally))
-    };
-    batch.iter().map(digest).collect()
+/// The Rust's digest.
+fn digest(script: &Script) -> Vec<u8> {
+    let bytes = script.bytes();
+    trace::digest_line(&trace::script_text(
+        trace::Script::whole(&bytes),
+        &mut Tally::default(),
+    ))
 }
 
 /// Which of the scripts are answered differently.
 fn differ(batch: &[Script], options: &Options) -> Result<Vec<bool>, String> {
-    let expected = digests(batch, &mut Tally::default());
+    let expected: Vec<Vec<u8>> = batch.iter().map(digest).collect();
     let output = options.port.run(PROGRAM, &input(DIGESTS, batch))?;
     let mut lines = output.split_inclusive(|&byte| byte == b'\n');
     Ok(expected
@@ -245,7 +292,7 @@ fn simpler(call: &Call) -> Vec<Call> {
         change(&mut other);
         tried.push(other);
     };
-    for length in 0..longest(call).min(64) {
+    for length in shorter(longest(call)) {
         each(&|call| {
             lent_of(call)
                 .into_iter()
@@ -253,12 +300,18 @@ fn simpler(call: &Call) -> Vec<Call> {
         });
     }
     if let Call::Update(update) = call {
-        for length in 0..update.list.min(64) {
+        for length in shorter(update.list) {
             each(&|call| {
                 if let Call::Update(update) = call {
                     update.list = length;
                 }
             });
+        }
+    }
+    let length = length_of(&mut call.clone());
+    for size in shorter(length as u16).map(|left| length - usize::from(left)) {
+        for from in (0..length).step_by(size) {
+            each(&|call| remove(call, from..length.min(from + size)));
         }
     }
     each(&|call| {
@@ -275,9 +328,6 @@ fn simpler(call: &Call) -> Vec<Call> {
             }
         }
     }
-    for index in 0..length_of(&mut call.clone()) {
-        each(&|call| remove(call, index));
-    }
     if let Call::Add(add) | Call::AddBoxed(add) = call
         && add.at != Place::Start
     {
@@ -288,6 +338,13 @@ fn simpler(call: &Call) -> Vec<Call> {
         });
     }
     tried
+}
+
+/// Shorter lengths: 0, the half, and ever less taken away.
+fn shorter(length: u16) -> impl Iterator<Item = u16> {
+    let less = (0..u16::BITS).map(move |k| length >> k);
+    less.take_while(|&less| less > 0)
+        .map(move |less| length - less)
 }
 
 /// Three slices of equal length.
@@ -377,53 +434,98 @@ fn length_of(call: &mut Call) -> usize {
     }
 }
 
-fn remove(call: &mut Call, index: usize) {
+fn remove(call: &mut Call, part: Range<usize>) {
     match call {
-        Call::Update(update) => drop(update.replies.remove(index)),
-        Call::Sequence(items) => drop(items.remove(index)),
+        Call::Update(update) => drop(update.replies.drain(part)),
+        Call::Sequence(items) => drop(items.drain(part)),
         Call::Stagger(_, durations)
         | Call::GroupParallel(durations)
         | Call::GroupSequence(durations)
-        | Call::GroupStagger(_, durations) => drop(durations.remove(index)),
+        | Call::GroupStagger(_, durations) => drop(durations.drain(part)),
         _ => {}
     }
 }
 
 // The sample
 
-/// Random scripts of the sample, and the longest text of one.
-const SAMPLED: usize = 300;
-const SAMPLED_TEXT: usize = 2000;
+/// Random scripts of the sample: short ones, then one on a long panel for each mode, then one on as many
+/// entries as there can be.
+const SAMPLED: usize = 306;
+const LONG_SAMPLED: usize = 300;
+const FULL_SAMPLED: usize = 305;
 
-/// Writes the cases of rules.txt and some random scripts, and the Rust's answers to them, to where
-/// `rt` replays them.
-pub fn write_sample(kinds: Kinds) -> Result<(), String> {
-    let mut rng = Rng::new(1);
-    let mut bytes = vec![TEXT];
-    let mut count = 0;
-    for case in rules::cases() {
-        if case.kinds().all(|kind| kinds.has(kind)) {
-            bytes.extend(framed(&case.bytes));
-            count += 1;
-        }
-    }
-    let mut left = SAMPLED;
-    while left > 0 {
-        let script = scripts::random(&mut rng, kinds).bytes();
-        let text = trace::script_text(trace::Script::whole(&script), &mut Tally::default());
-        if text.len() <= SAMPLED_TEXT {
-            bytes.extend(framed(&script));
-            count += 1;
-            left -= 1;
-        }
-    }
-    let text = trace::answer(&bytes);
+/// Adds to the sample the cases of rules.txt that it does not have, and random scripts up to their
+/// number; and writes the Rust's answers to all of it, to where `rt` replays them. A script that is
+/// stored stays, whatever becomes of the cases and of the random ones.
+pub fn write_sample() -> Result<(), String> {
     let folder = port::root().join("crates").join(PROGRAM);
+    let cases: Vec<Vec<u8>> = rules::cases().into_iter().map(|case| case.bytes).collect();
+    let mut scripts = stored(&fs::read(folder.join("stdin")).unwrap_or_default());
+    let random = scripts.iter().filter(|&script| !cases.contains(script));
+    let made: Vec<Vec<u8>> = (random.count()..SAMPLED).map(sampled).collect();
+    for case in cases {
+        if !scripts.contains(&case) {
+            scripts.push(case);
+        }
+    }
+    scripts.extend(made);
+    let framed = scripts.iter().flat_map(|script| framed(script));
+    let bytes: Vec<u8> = iter::once(TEXT).chain(framed).collect();
+    let text = trace::answer(&bytes);
     fs::write(folder.join("stdin"), &bytes).map_err(|e| e.to_string())?;
     fs::write(folder.join("stdout"), &text).map_err(|e| e.to_string())?;
     println!(
-        "{PROGRAM}: a sample of {count} scripts, {} bytes of text",
+        "{PROGRAM}: a sample of {} scripts, {} bytes of text",
+        scripts.len(),
         text.len()
     );
     Ok(())
+}
+
+/// The scripts of an input.
+fn stored(input: &[u8]) -> Vec<Vec<u8>> {
+    let mut rest = input.get(1..).unwrap_or_default();
+    let next = || trace::next_script(&mut rest).map(|script| script.bytes.to_vec());
+    iter::from_fn(next).collect()
+}
+
+/// The k-th random script of the sample: the first that its seed gives with a text that is not long and
+/// with what it is there for. On a long panel it is the first calls of one.
+fn sampled(k: usize) -> Vec<u8> {
+    let mut rng = Rng::new(k as u64);
+    let most = match k {
+        0..LONG_SAMPLED => 2000,
+        LONG_SAMPLED..FULL_SAMPLED => 8000,
+        _ => 24_000,
+    };
+    loop {
+        let long = k >= LONG_SAMPLED;
+        let made = scripts::random(&mut rng, Kinds::all(), long, &mut Tally::default());
+        let script = if long {
+            first_calls(&made.script, most)
+        } else {
+            made.script.bytes()
+        };
+        let mut tally = Tally::default();
+        let text = trace::script_text(trace::Script::whole(&script), &mut tally);
+        let right = match k.checked_sub(LONG_SAMPLED) {
+            None => text.len() <= most,
+            Some(mode) if k < FULL_SAMPLED => tally.long_updates()[mode] > 0,
+            Some(_) => tally.full_calls() > 0 && tally.long_updates() != [0; 5],
+        };
+        if right {
+            return script;
+        }
+    }
+}
+
+/// The first calls of a script, up to a length of their text.
+fn first_calls(script: &Script, most: usize) -> Vec<u8> {
+    let mut tally = Tally::default();
+    let mut running = Running::new(&mut tally);
+    let calls = script.calls.iter().take_while(|call| {
+        running.call(call);
+        running.text.len() <= most
+    });
+    calls.flat_map(Call::bytes).collect()
 }

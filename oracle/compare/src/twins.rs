@@ -62,6 +62,8 @@ pub struct Twins {
     named: Player,
     numbered: Player,
     entries: Vec<Entry>,
+    /// Of each entry the first one with its label.
+    firsts: Vec<usize>,
     /// Elapsed is NaN, and the Rust's stands at infinity instead; only where the base is infinite.
     at_nan: bool,
     text: String,
@@ -81,6 +83,7 @@ impl Twins {
             named: Player::new(timeline, records),
             numbered: Player::new(numbered, Vec::new()),
             entries: Vec::new(),
+            firsts: Vec::new(),
             at_nan: false,
             text: String::new(),
         }
@@ -101,7 +104,10 @@ impl Twins {
                 add_boxed_with_duration(timeline, number, Box::new(leaf), at, entry.duration)
             });
             self.numbered.listen(index.to_string(), index);
-            if first_with(&entries, &entry.label) == index {
+            let first = entries.iter().position(|other| other.label == entry.label);
+            let first = first.expect("an entry's own label");
+            self.firsts.push(first);
+            if first == index {
                 self.named.listen(image(&entry.label), index);
             }
         }
@@ -290,9 +296,8 @@ impl Twins {
     /// The numbers of the entries that have completed, in the order of the Rust's labels.
     pub fn completed(&self) -> Vec<usize> {
         let numbers = self.numbered.completed.lock().unwrap().clone();
-        let label = |&number: &usize| first_with(&self.entries, &self.entries[number].label);
-        let labels = self.named.completed.lock().unwrap();
-        assert!(numbers.iter().map(label).eq(labels.iter().copied()));
+        let firsts = numbers.iter().map(|&number| &self.firsts[number]);
+        assert!(firsts.eq(self.named.completed.lock().unwrap().iter()));
         numbers
     }
 
@@ -346,7 +351,7 @@ impl Twins {
 
     /// The marks, and whether the whole-run completion has fired since the last reset.
     pub fn marks(&mut self) -> (Vec<bool>, bool) {
-        debug::marks(&self.numbered.timeline, &mut self.text)
+        debug::marks(&self.named.timeline, &mut self.text)
     }
 
     pub fn introspect(&self) -> AnimationIntrospection {
@@ -364,12 +369,6 @@ impl Twins {
             ..seen
         }
     }
-}
-
-/// The number of the first entry with a label.
-fn first_with(entries: &[Entry], label: &[u8]) -> usize {
-    let first = entries.iter().position(|entry| entry.label == label);
-    first.expect("an entry's own label")
 }
 
 fn in_group<T>(timeline: &mut Timeline, act: impl FnOnce(&mut AnimationGroup) -> T) -> T {
