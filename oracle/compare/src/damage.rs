@@ -124,8 +124,8 @@ pub fn large() -> Vec<Vec<u8>> {
 }
 
 /// Sheets of 65, 255 and 256 entries with the longest labels and with none, the longest of all among them; of
-/// 160 with none, the longest number of entries that a log of before could have had; and of 256 with labels of
-/// each length, each entry placed at the label of another.
+/// 160 with none, which is as long as the longest was before; and of 256 with labels of each length, each entry
+/// placed at the label of another.
 pub fn longer() -> Vec<Vec<u8>> {
     let mut rng = Rng::new(256);
     let mut sheets = Vec::new();
@@ -398,16 +398,12 @@ pub fn counts(sheet: &[u8]) -> Vec<Fault> {
 
 /// Every high byte of the count, with low ones on both sides of the limits and with its own.
 pub fn high_bytes(sheet: &[u8]) -> Vec<Fault> {
-    let lows = [sheet[1], 0, 1, 2, 63, 64, 65, 254, 255];
-    let lows = (0..lows.len())
-        .filter(|&k| !lows[..k].contains(&lows[k]))
-        .map(|k| lows[k]);
-    let lows: Vec<u8> = lows.collect();
-    (0..=255)
-        .flat_map(|high| {
-            lows.iter()
-                .map(move |&low| Fault::Count(u16::from_le_bytes([low, high])))
-        })
+    let mut lows = vec![sheet[1], 0, 1, 2, 63, 64, 65, 254, 255];
+    lows.sort_unstable();
+    lows.dedup();
+    let counts = (0..=255).flat_map(|high| lows.iter().map(move |&low| [low, high]));
+    let faults = counts.map(|count| Fault::Count(u16::from_le_bytes(count)));
+    faults
         .filter(|fault| fault.applied(sheet) != sheet)
         .collect()
 }

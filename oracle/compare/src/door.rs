@@ -130,8 +130,8 @@ fn call(bytes: &[u8]) -> Option<Call> {
     })
 }
 
-/// The panel of a sheet, as `Checked` has it; but its entries are added all at once. Looked at after each of them,
-/// as `Checked` does, it would take a time that grows with the square of their number.
+/// The panel of a sheet, as `Checked` has it; but its entries are added all at once. Looked at after each of
+/// them, as `Checked` does, it would take a time that grows with the square of their number.
 struct Panel<'a> {
     described: &'a Described,
     checked: Checked,

@@ -84,8 +84,8 @@ impl Tally {
         self.before.print();
     }
 
-    /// Fails where there were too few sheets or too few long ones, or where a number, a pair of numbers, a byte 3
-    /// or a count with one of its numbers was not met.
+    /// Fails where there were too few sheets or too few long ones, or where a number, a pair of numbers, a byte
+    /// 3 or a count with one of its numbers was not met.
     pub fn verdict(&self, least: u64) -> Result<(), String> {
         if self.damaged < least {
             let damaged = self.damaged;
