@@ -1,5 +1,5 @@
--- What is claimed of logs: calling the functions in turn prints exactly the log of the definition, and the worked example; the limit takes every
--- sheet, and the inputs of before keep their log.
+-- What is claimed of logs: calling the functions in turn prints exactly the log of the definition, and the worked example; the limit
+-- takes every sheet, and an input whose sheet was accepted before panels had up to 256 entries keeps its log.
 use Rattle.std.specs.Prelude.{ℕ, ◌≤◌, ◌<◌, ◌≡◌, Bool, cond, Option, List, [], ◌∷◌, ◌++◌, ltb, length, take}
 use Rattle.std.specs.Float.{nan}
 use Rattle.float32.specs.Helpers.{to_bits}
@@ -54,14 +54,15 @@ TakesAll = (s : List ℕ) → check_number s ≡ accepted → length s ≤ max_s
 abbrev pub KeepsOldLogs : Type 0
 KeepsOldLogs = (input : List ℕ) → old_sheet_number input ≡ accepted → (sheet_number input ≡ accepted) × (log_of input ≡ old_lines input)
 
--- "An older reader meets a longer sheet with 12 or 8, an older log with 8 or 7": of the inputs whose sheet is accepted now, the log of before refused
--- those with more than 64 entries, by 7 where the sheet is above 2,572 bytes and else by 8. (12 does not arise: 256 entries take 4,108 bytes.) The
--- others it accepted.
+-- "an older reader meets a longer sheet with 12 or 8, an older log with 8 or 7": of the inputs whose sheet is accepted now, the log of
+-- before refused those with more than 64 entries, by 7 where the sheet is above 2,572 bytes and else by 8. (12 does not arise: 256
+-- entries take 4,108 bytes.) The others it accepted.
 abbrev pub MeetsOldLog : Type 0
 MeetsOldLog =
     (input : List ℕ) → sheet_number input ≡ accepted
     → old_sheet_number input
-    ≡ refused_if (ltb old_max_entries (count_in (sheet_in input))) (cond (ltb old_max_sheet (word length_size input)) sheet_length sheet_count) accepted
+    ≡ refused_if (ltb old_max_entries (count_in (sheet_in input)))
+    (cond (ltb old_max_sheet (word length_size input)) sheet_length sheet_count) accepted
 
 -- The worked example: "Once, scale 1.0, `a` of 1.0 at Start, `b` of 0.5 at End; play, update 1.0, update 1.0". A line each for the length,
 -- the header, the loop number, the scale, two pairs, two records, the labels and three calls.

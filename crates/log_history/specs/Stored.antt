@@ -1,5 +1,6 @@
--- What the log made of an input before panels had up to 256 entries: when it was cut, the number of its sheet, and its lines. They are here for the
--- claims alone that such inputs keep their log, and what an older log makes of a longer sheet. Definitions only.
+-- What the log made of an input before panels had up to 256 entries: when it was cut, the number of its sheet, and its lines. They are
+-- here for the claims alone that such inputs keep their log, and what an older log makes of a longer sheet. What has not changed since
+-- is today's definition: who changes one of those says here what it was. Definitions only.
 use Rattle.std.specs.Prelude.{ℕ, zero, suc, ◌+◌, ◌||◌, Bool, cond, List, ◌∷◌, map, ltb, length, drop, replicate}
 use Rattle.float32.specs.Helpers.{from_bits}
 use Rattle.refusal.specs.Refusal.{sheet_length, bad_call}
@@ -55,4 +56,6 @@ old_track_in input = (old_reading_in (sheet_in input)).timeline.track
 
 -- the lines of an input whose sheet was accepted
 abbrev pub old_lines : List ℕ → List Line
-old_lines input = sheet_line (old_track_in input) ∷ map (old_line_at (old_track_in input) (script_in input)) (numbers_from 0 (line_count (script_in input)))
+old_lines input =
+    sheet_line (old_track_in input)
+    ∷ map (old_line_at (old_track_in input) (script_in input)) (numbers_from 0 (line_count (script_in input)))

@@ -20,7 +20,7 @@ use Rattle.sheet.proofs.Stored.{old_accepted, reads_old, meets_old_reader}
 use Rattle.sheet.proofs.Cases.{header_cases}
 
 rewrites : Rewrites
-rewrites s room y e h =
+rewrites s e room y h =
     let a = accepted-sheet s e in
     let same = sheet-same s y a in
     let w = write-whole (description_in s) room (described-good s y a) (rw same h) in
@@ -30,7 +30,7 @@ stored : Stored
 stored s e =
     let o = old_accepted s e in
     let a = check_accepts s o.1 in
-    record { accepts = a; reading = reads_old s o.0 a; rewriting = λ room y h. rewrites s room y a h }
+    record { accepts = a; reading = reads_old s o.0 a; rewriting = rewrites s a }
 
 -- what is chosen is what its calls make
 chosen : (b : Bool) (x y : NumberedReading) (calls : List Call) → x.timeline ≡ after empty calls → y.timeline ≡ empty → (cond b x y).timeline ≡ after empty (cond b calls [])

@@ -1,4 +1,5 @@
--- Headers worked out by hand from the sentences on byte 3 and the count: what was answered when panels had up to 64 entries, and what is now.
+-- Headers worked out by hand from the sentences on byte 3 and the count: what was answered when panels had up to 64 entries, and what
+-- is now.
 use Rattle.std.specs.Prelude.{ℕ, ◌≡◌, List, [], ◌∷◌}
 use Rattle.sheet_rules.specs.Rules.{header_refusal}
 use Rattle.sheet_format.specs.Check.{count_in}
@@ -11,7 +12,8 @@ front low mode high = 1 ∷ low ∷ mode ∷ high ∷ []
 -- a sheet of len bytes, with these three and the loop number 0: its number then, and its number now
 abbrev pub Meets : ℕ → ℕ → ℕ → ℕ → ℕ → ℕ → Type 0
 Meets len low mode high old new =
-    (old_header_refusal len 1 (old_count_in (front low mode high)) mode high 0 ≡ old) × (header_refusal len 1 (count_in (front low mode high)) mode 0 ≡ new)
+    (old_header_refusal len 1 (old_count_in (front low mode high)) mode high 0 ≡ old)
+    × (header_refusal len 1 (count_in (front low mode high)) mode 0 ≡ new)
 
 pub record HeaderCases : Type 0 where
   -- 64, 65, 255, 256 and 257 entries, in 10,252 bytes: "an older reader meets a longer sheet with 12 or 8"

@@ -1,5 +1,6 @@
--- What a sheet was before panels had up to 256 entries: its checks, its description and its panel, as they were defined then. They are here for the
--- claims alone that stored sheets keep their reading, and what an older reader or log makes of a longer sheet. Definitions only.
+-- What a sheet was before panels had up to 256 entries: its checks, its description and its panel. They are here for the claims alone
+-- that stored sheets keep their reading, and what an older reader or log makes of a longer sheet. What has not changed since is today's
+-- definition: who changes one of those says here what it was. Definitions only.
 use Rattle.std.specs.Prelude.{ℕ, ◌-◌, Bool, true, false, cond, not, ◌&&◌, List, [], ◌∷◌, ◌++◌, eqb, leb, ltb, length, drop, replicate}
 use Rattle.refusal.specs.Refusal.{accepted, timeline_full, sheet_version, sheet_length, sheet_count, sheet_loop, sheet_zero, refused_if, in_turn}
 use Rattle.tween.specs.declared.loop_mode.Loop.TheVariants.{Once}
@@ -103,11 +104,11 @@ old_reading_in s = record { refusal = accepted; described = old_description_in s
 
 -- ---- what was read then, in the arrays of now
 
--- the slots that an array has more
+-- the slots by which an array is longer
 abbrev pub more_slots : {A : Type 0} → A → List A
 more_slots x = replicate (max_entries - old_max_entries) x
 
--- the same description; the slots that it has more are blank
+-- the same description; the added slots are blank
 abbrev pub longer_description : Description → Description
 longer_description d = record { count = d.count; looping = d.looping; time_scale = d.time_scale; items = d.items ++ more_slots blank_item }
 

@@ -15,7 +15,7 @@ use Rattle.sheet_format.specs.Descriptions.{items_in, described_by, cleaned}
 
 -- ---- the bytes
 
--- "Byte 0 version, 1 count n, 2 mode, 3 [the high byte of the count]; 4 to 7 loop number; 8 to 11 scale bits"
+-- "Byte 0 version, 1 count n, 2 mode .. 4 to 7 loop number; 8 to 11 scale bits"; "byte 3 becomes the high byte of the count"
 unfoldable pub header_bytes : ℕ → Loop → ℕ → List ℕ
 header_bytes n looping scale = (1 ∷ n % 256 ∷ mode_of looping ∷ n / 256 ∷ []) ++ (bytes_of 4 (number_of looping) ++ bytes_of 4 scale)
 

@@ -22,7 +22,7 @@ labels_at n = header_size + 16 * n
 abbrev pub loop_good : ℕ → ℕ → Bool
 loop_good mode number = leb mode 4 && (eqb mode 1 || (eqb mode 4 || eqb number 0))
 
--- "6; 8; 9; 7 if below 12 + 16n", of a sheet of len bytes; "byte 3 being checked with the count"
+-- "6; .. 8; 9; 7 if below 12 + 16n", of a sheet of len bytes; "byte 3 being checked with the count"
 abbrev pub header_refusal : ℕ → ℕ → ℕ → ℕ → ℕ → ℕ
 header_refusal len version n mode number =
     refused_if (not (eqb version 1)) sheet_version
