@@ -1,5 +1,6 @@
 //! The Rust's timeline with what paper 01 adds to it: refusals, lent slices, the preview. Each rule
-//! stands here with the paper's sentence, and has a case in rules.txt.
+//! stands here with the paper's sentence, and has a case in rules.txt; but a sequence's refusal by 1 is run by
+//! the program `edge_cases` alone, since a sequence of a script has at most 255 items.
 
 use crate::answer::{GRID_TOO_LARGE, MAX_SIDE};
 use crate::call::{Add, Call, Item, Lent, Pattern, Place, Update};

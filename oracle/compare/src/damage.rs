@@ -149,7 +149,7 @@ pub fn longer() -> Vec<Vec<u8>> {
     sheets.iter().map(reader::write).collect()
 }
 
-/// In turn, as good ones are, but of too many entries: a byte or 64 entries more, and a multiple of 256.
+/// In shape but for the count: a little above 256, about 256 + 64, 512 and 640.
 pub fn too_many() -> Vec<Vec<u8>> {
     let of = |n| {
         let entries = vec![entry(At::Start, b"", 0x3f80_0000); n];
@@ -215,7 +215,7 @@ pub fn random_longest(rng: &mut Rng) -> Vec<u8> {
     random_of(rng, n, |k| Some(if k == 0 { first } else { others }))
 }
 
-/// More than 64, mostly few more; often as many as can be.
+/// More than 64, mostly few more; one in 32 as many as can be.
 pub fn long_count(rng: &mut Rng) -> u32 {
     match rng.below(16) {
         0 => rng.pick(&[255, 256]),
@@ -312,19 +312,20 @@ pub fn cuts(sheet: &[u8]) -> Vec<Fault> {
     (0..sheet.len()).map(Fault::Cut).collect()
 }
 
-/// One to a hundred bytes, those that the longest sheet has or had, and as many as the program takes.
+/// One to a hundred bytes; and up to 256 bytes, the 4,108 of 256 entries without labels, the longest sheet of
+/// before and of now, what the program takes, and a byte beside these.
 pub fn appended(sheet: &[u8]) -> Vec<Fault> {
     let up_to = |n: usize| n - sheet.len();
-    let longest = [256, 2572, 2573, 4096, 10_252, 10_253, 11_999, 12_000];
-    let longest = longest.into_iter().filter(|&n| n > sheet.len()).map(up_to);
+    let lengths = [256, 2572, 2573, 4107, 4108, 10_252, 10_253, 11_999, 12_000];
+    let longest = lengths.into_iter().filter(|&n| n > sheet.len()).map(up_to);
     (1..=100)
         .chain(longest)
         .flat_map(|n| [0, 1].map(|byte| Fault::Append(vec![byte; n])))
         .collect()
 }
 
-/// Each field set to other numbers, those on both sides of each limit among them, and the length
-/// beside those that it is checked for.
+/// Each field set to other numbers, those on both sides of each limit among them (the count's are in `counts`:
+/// here its two bytes are set one by one), and the length beside those that it is checked for.
 pub fn fields(sheet: &[u8]) -> Vec<Fault> {
     let n = reader::claimed(sheet);
     let mut faults = Vec::new();
@@ -442,7 +443,7 @@ pub fn random_fault(rng: &mut Rng, sheet: &[u8]) -> Fault {
 /// Bytes that are no damaged sheet: of any length, and mostly with a good header.
 pub fn noise(rng: &mut Rng) -> Vec<u8> {
     let length = match rng.below(8) {
-        0 => rng.below(4097),
+        0 => rng.below(12_001),
         _ => rng.below(100),
     };
     let mut bytes: Vec<u8> = (0..length)

@@ -161,7 +161,8 @@ impl<'a> Panel<'a> {
             0 => self.accepted.push(call),
             // not tried
             _ if answer.long_walk => {}
-            // taken back, on a panel with no sheet
+            // `Checked` takes a call back by making its own calls again, and the entries of the sheet are none of
+            // these: so the panel is built anew
             _ => {
                 let accepted = mem::take(&mut self.accepted);
                 *self = Panel::new(self.described);
@@ -267,7 +268,7 @@ fn eighths(rng: &mut Rng, most: u32) -> u32 {
     (rng.below(8 * most + 1) as f32 * 0.125).to_bits()
 }
 
-/// How many entries: mostly few, and one in seven times more than 64.
+/// How many entries: mostly few, and one time in seven more than 64.
 fn count(rng: &mut Rng) -> u32 {
     match rng.below(42) {
         0 => 64,

@@ -29,7 +29,7 @@ pub struct Entry {
 }
 
 /// "a placement is one of five, and two of them carry seconds": `Absolute(s)`, `Start`, `End`,
-/// `Label`, `Offset(o)`; here `Label` carries its target, which one to be written may have at 256, too.
+/// `Label`, `Offset(o)`; here `Label` carries its target, wider than a byte: the writer is asked with 256, too.
 #[derive(Clone, Copy, PartialEq, Debug)]
 pub enum At {
     Absolute(u32),

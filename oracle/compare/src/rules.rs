@@ -1,5 +1,5 @@
-//! Cases worked out by hand from paper 01, in rules.txt: bytes of a script, and the text that answers
-//! it. They hold the rules that stand around the Rust, so that no misreading stands on both sides.
+//! Cases worked out by hand from paper 01 and request S-2, in rules.txt: bytes of a script, and the text that
+//! answers it. They hold the rules that stand around the Rust, so that no misreading stands on both sides.
 
 pub struct Case {
     #[cfg_attr(not(test), expect(dead_code))]

@@ -702,8 +702,11 @@ mod tests {
     #[test]
     fn good_sheets() {
         let mut rng = Rng::new(3);
-        let random: Vec<Vec<u8>> = (0..1000).map(|_| damage::random(&mut rng)).collect();
-        for sheet in [damage::small(), damage::large(), random].concat() {
+        let mut sheets = [damage::small(), damage::large(), damage::longer()].concat();
+        sheets.extend((0..1000).map(|_| damage::random(&mut rng)));
+        sheets.extend((0..200).map(|_| damage::random_long(&mut rng)));
+        sheets.extend((0..20).map(|_| damage::random_longest(&mut rng)));
+        for sheet in sheets {
             let described = reader::read(&sheet).expect("a good sheet");
             assert_eq!(reader::write(&described), sheet);
         }
