@@ -9,7 +9,7 @@ use track::track::{Secs, Share};
 pub(crate) fn come_to(t: Timeline, job: Job, turns: u32) -> Option<f32> {
     let base = t.duration();
     let mut room = Room::new();
-    let mut lent = room.lend();
+    let mut lent = room.lend(job.listed());
     let from = played(t, &mut lent.rows);
     let left = match job {
         Job::SeekAbsOnce | Job::SeekAbsForever => seeks_abs(from, base, turns, &mut lent.rows),

@@ -20,7 +20,7 @@ pub(crate) fn come_to<L: FnMut(&Rows<'_>)>(
     let base = t.duration();
     let columns = &mut Columns::of(t.track);
     let mut room = Room::new();
-    let mut lent = room.lend();
+    let mut lent = room.lend(job.listed());
     let mut player = Player::of(columns);
     player.head = started(player.head, job, player.spans);
     match job {
@@ -47,7 +47,7 @@ pub(crate) fn come_to<L: FnMut(&Rows<'_>)>(
 fn started(head: Playhead, job: Job, spans: Spans<'_>) -> Playhead {
     let mut marks = [false; MAX_ENTRIES];
     let mut room = Room::new();
-    let lent = &mut room.lend();
+    let lent = &mut room.lend(job.listed());
     let mut player = Player {
         head,
         spans,

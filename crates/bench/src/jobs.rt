@@ -1,4 +1,5 @@
 // The jobs: what is called, on which entries.
+use completions::MOST_ENTRIES;
 use timeline::timeline::{At, Timeline};
 use tween::Loop;
 
@@ -60,6 +61,14 @@ impl Job {
         }
     }
 
+    // How many places of the list are lent. The walk outnumbers 256.
+    pub(crate) fn listed(self) -> usize {
+        match self {
+            Job::LongestWalk => MOST_ENTRIES,
+            _ => 2 * MOST_ENTRIES,
+        }
+    }
+
     // The second from which it goes.
     pub(crate) fn first(self) -> f32 {
         match self {
@@ -70,7 +79,7 @@ impl Job {
 
     // Entries that start one after another and overlap. For the longest walk they are so short that an update by three units in the
     // last place goes over 642 cycles, 385 of them without a completion, before it is known that they outnumber a list of 256.
-    pub(crate) fn built(self, entries: u8) -> Timeline {
+    pub(crate) fn built(self, entries: u16) -> Timeline {
         let mut t = Timeline::new().looping(self.mode());
         for i in 0..entries {
             let at = float32::from_u32(u32::from(i));
@@ -97,7 +106,7 @@ impl Job {
 }
 
 // The base of whole timelines, built again and again: as many entries as turns.
-pub(crate) fn adds(entries: u8, turns: u32) -> f32 {
+pub(crate) fn adds(entries: u16, turns: u32) -> f32 {
     let times = turns.checked_div(u32::from(entries)).unwrap_or(0);
     let mut base = 0.0;
     for _ in 0..times {

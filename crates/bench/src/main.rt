@@ -1,6 +1,6 @@
 // Makes many calls on a timeline, to be timed beside the Rust (`tools/bench`).
 //
-// Standard input: which job, how many entries, and how many calls as a u32, little-endian. The job's number has 10 more where all
+// Standard input: which job, a u16 of how many entries, and a u32 of how many calls, little-endian. The job's number has 10 more where all
 // rows are looked at after every call, and 20 more where it is played by value. It prints the elapsed time that the calls come to,
 // or the base where entries are added, and a sum of what was seen, each as the eight hex digits of its bits. No input: nothing is
 // done.
@@ -16,7 +16,7 @@ use rows::sum;
 use std::io::Print;
 use streams::read_full;
 
-const INPUT: usize = 6;
+const INPUT: usize = 7;
 
 // What the calls come to: a time, and a sum of the rows that were looked at.
 #[derive(Clone, Copy, Default)]
@@ -32,7 +32,8 @@ fn main(rt: HostRuntime) {
     if got.count < INPUT {
         return;
     }
-    let [number, entries, a, b, c, d] = input;
+    let [number, low, high, a, b, c, d] = input;
+    let entries = u16::from_le_bytes([low, high]);
     let came = come_to(number, entries, u32::from_le_bytes([a, b, c, d]));
     let mut line = *b"........ ........\n";
     digits::put_hex8(float32::to_bits(came.time), &mut line, 0);
@@ -40,7 +41,7 @@ fn main(rt: HostRuntime) {
     rt.stdout().write_all(&line).is_ok();
 }
 
-fn come_to(number: u8, entries: u8, turns: u32) -> Came {
+fn come_to(number: u8, entries: u16, turns: u32) -> Came {
     let job = Job::from(number);
     if job == Job::Add {
         return Came {

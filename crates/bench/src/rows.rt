@@ -4,11 +4,14 @@ use completions::MOST_ENTRIES;
 use steps::MAX_ENTRIES;
 use track::rows::Rows;
 
+// Places of the list. An update by a base can complete an entry twice, since the ends of cycles are rounded.
+const LIST: usize = 2 * MOST_ENTRIES;
+
 // Room for what is lent to the calls of a job.
 #[derive(Drop)]
 pub(crate) struct Room {
     replies: [u8; MAX_ENTRIES],
-    list: [u8; MOST_ENTRIES],
+    list: [u8; LIST],
     kinds: [u8; MAX_ENTRIES],
     amounts: [f32; MAX_ENTRIES],
     places: [f32; MAX_ENTRIES],
@@ -26,14 +29,15 @@ impl Room {
     pub(crate) fn new() -> Room {
         Room {
             replies: [1; MAX_ENTRIES],
-            list: [0; MOST_ENTRIES],
+            list: [0; LIST],
             kinds: [0; MAX_ENTRIES],
             amounts: [0.0; MAX_ENTRIES],
             places: [0.0; MAX_ENTRIES],
         }
     }
 
-    pub(crate) fn lend(&mut self) -> Lent<'_> {
+    // Lends so many places of the list, or all, and the rest whole.
+    pub(crate) fn lend(&mut self, listed: usize) -> Lent<'_> {
         let Room {
             replies,
             list,
@@ -43,7 +47,7 @@ impl Room {
         } = self;
         Lent {
             replies,
-            list,
+            list: &mut list[..listed.min(LIST)],
             rows: Rows {
                 kinds,
                 amounts,

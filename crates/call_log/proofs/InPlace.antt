@@ -142,8 +142,8 @@ batch_back ended log bytes room =
     ap (λ (t : Track). batch_of ended (Some (record { number = log.number; track = t })) bytes room) (sym (own_back log.track))
     ∙ batch-from-back log.track (length bytes) ended (record { number = log.number; track = trimmed log.track }) bytes room (refl, refl)
 
--- what is gathered from columns of 64, with the count put back, is put back into the track
-gathered : (k : Track) (h : Playhead) (ss ds : List Float) (ms : List Bool) {g : Track} → g ≡ laid_over k (track_of h ss ds ms) → 64 ≡ length ss
+-- what is gathered from columns of all entries, with the count put back, is put back into the track
+gathered : (k : Track) (h : Playhead) (ss ds : List Float) (ms : List Bool) {g : Track} → g ≡ laid_over k (track_of h ss ds ms) → max_entries ≡ length ss
     → record { count = k.count; entries = g.entries; clock = g.clock; looping = g.looping } ≡ put_back k (track_of h ss ds ms)
 unfolding laid_over track_of
 gathered k h ss ds ms e l =
@@ -158,8 +158,8 @@ pub seated : (k : Track) → length k.entries ≡ max_entries → {h : Playhead}
     → {ss ds : List Float} → ss ≡ s → ds ≡ d → track_of h ss ds m ≡ trimmed k
 seated k l w es ed = rw (es, ed) (all_laid k l refl w.track)
 
--- the calls of a batch run by a player of columns of 64, in which the whole track was laid out: what is gathered is what the batch leaves of it
-pub runs_whole : (ended : Bool) (log : Log) (bytes old new : List ℕ) {g : Track} (p q : Player) (r : Ran) → playing_in p ≡ trimmed log.track → 64 ≡ length p.spans.starts.now
+-- the calls of a batch run by a player of columns of all entries, in which the whole track was laid out: what is gathered is what the batch leaves of it
+pub runs_whole : (ended : Bool) (log : Log) (bytes old new : List ℕ) {g : Track} (p q : Player) (r : Ran) → playing_in p ≡ trimmed log.track → max_entries ≡ length p.spans.starts.now
     → RunsTo (batch_of ended (Some (log_in log.number p)) bytes (length old)) r p q old new → g ≡ laid_over log.track (playing_in q)
     → (record { used = r.used; len = r.len; log = Some (record { number = r.number; track = record { count = log.track.count; entries = g.entries; clock = g.clock; looping = g.looping } }) } ≡ batched_by (batch_of ended (Some log) bytes (length old)))
     × (new ≡ lined (batch_of ended (Some log) bytes (length old)).text old)
@@ -167,7 +167,7 @@ runs_whole ended log bytes old new {g} p q r laid size runs eg =
     let k = log.track in
     let b = batch_of ended (Some (record { number = log.number; track = trimmed k })) bytes (length old) in
     let own : RunsTo b r p q old new = rw laid at runs in
-    let long : 64 ≡ length q.spans.starts.now = rw own.columns.spans size in
+    let long : max_entries ≡ length q.spans.starts.now = rw own.columns.spans size in
     let track : record { count = k.count; entries = g.entries; clock = g.clock; looping = g.looping } ≡ put_back k (playing_in q) = gathered k q.head q.spans.starts.now q.spans.durations.now q.marks.now eg long in
     rw (batch_back ended log bytes (length old), track, own.used, own.len)
     (ap (λ (l : Option Log). record { used = b.used; len = length b.text; log = back_in k l }) own.log, own.text)

@@ -16,13 +16,13 @@ use Rattle.sheet.specs.Build.{reading_of}
 use Rattle.std.proofs.lemmas.Bool.{or_parts}
 use Rattle.call_log.specs.declared.Log.{Log}
 use Rattle.call_log.specs.Lines.{Refused}
-use Rattle.call_log.specs.Logs.{is_cut, sheet_in, sheet_number, sheet_line, track_in}
+use Rattle.call_log.specs.Logs.{max_sheet, is_cut, sheet_in, sheet_number, sheet_line, track_in}
 use Rattle.call_log.specs.Machine.{sheet_room, new_log, open_line, open_log}
 
 -- what holds of an input that is not cut
 pub record Whole (input : List ℕ) : Type 0 where
   pub some : 2 ≤ length input
-  pub few : word 2 input ≤ 2572
+  pub few : word 2 input ≤ max_sheet
   pub fits : 2 + word 2 input ≤ length input
 
 pub uncut : (input : List ℕ) → is_cut input ≡ false → Whole input
@@ -35,14 +35,14 @@ uncut input e =
 -- the sheet's length is wanted
 pub room_whole : (input : List ℕ) → Whole input → sheet_room input ≡ Some (word 2 input)
 unfolding sheet_room
-room_whole input w = rw (le-ltb (length input) 2 w.some, le-ltb 2572 (word 2 input) w.few)
+room_whole input w = rw (le-ltb (length input) 2 w.some, le-ltb max_sheet (word 2 input) w.few)
 
 -- ---- by the length that is wanted
 
 -- there is none: the input is cut
 pub cut_unsaid : (input : List ℕ) → sheet_room input ≡ None → is_cut input ≡ true
 unfolding sheet_room is_cut
-cut_unsaid input e = go (ltb (length input) 2) (ltb 2572 (word 2 input)) e
+cut_unsaid input e = go (ltb (length input) 2) (ltb max_sheet (word 2 input)) e
   where
     go : (a b : Bool) → cond (a || b) None (Some (word 2 input)) ≡ None → a || (b || ltb (length input) (2 + word 2 input)) ≡ true
     go true b f = refl
@@ -53,30 +53,30 @@ module _ (input : List ℕ) (len : ℕ) (e : sheet_room input ≡ Some len) wher
   -- what it says
   pub record Said : Type 0 where
     pub some : 2 ≤ length input
-    pub few : len ≤ 2572
+    pub few : len ≤ max_sheet
     pub said : word 2 input ≡ len
 
   said : Said
   unfolding sheet_room
-  said = go (ltb (length input) 2) (ltb 2572 (word 2 input)) refl refl e
+  said = go (ltb (length input) 2) (ltb max_sheet (word 2 input)) refl refl e
     where
-      go : (a b : Bool) → ltb (length input) 2 ≡ a → ltb 2572 (word 2 input) ≡ b → cond (a || b) None (Some (word 2 input)) ≡ Some len → Said
+      go : (a b : Bool) → ltb (length input) 2 ≡ a → ltb max_sheet (word 2 input) ≡ b → cond (a || b) None (Some (word 2 input)) ≡ Some len → Said
       go true b p q f = cc
       go false true p q f = cc
       go false false p q f =
           let s : word 2 input ≡ len = cc in
           record { some = ltb-false _ _ p; few = omega (arith, ltb-false _ _ q); said = s }
 
-  pub room_few : len ≤ 2572
+  pub room_few : len ≤ max_sheet
   room_few = said.few
 
   pub cut_short : length input < 2 + len → is_cut input ≡ true
   unfolding is_cut
-  cut_short h = rw (le-ltb (length input) 2 said.some, said.said, le-ltb 2572 len said.few, lt-ltb (length input) (2 + len) h)
+  cut_short h = rw (le-ltb (length input) 2 said.some, said.said, le-ltb max_sheet len said.few, lt-ltb (length input) (2 + len) h)
 
   pub cut_not : 2 + len ≤ length input → is_cut input ≡ false
   unfolding is_cut
-  cut_not h = rw (le-ltb (length input) 2 said.some, said.said, le-ltb 2572 len said.few, le-ltb (length input) (2 + len) h)
+  cut_not h = rw (le-ltb (length input) 2 said.some, said.said, le-ltb max_sheet len said.few, le-ltb (length input) (2 + len) h)
 
   -- the part of the input that is read as the sheet
   pub sheet_is : take len (drop 2 input) ≡ sheet_in input

@@ -14,15 +14,15 @@ use Rattle.call_log.specs.Lines.{Line, Refused, Accepted, Called, shown_all}
 
 -- ---- the sheet
 
--- "a length above 2,572"
+-- "The longest sheet is 10,252 bytes, and the log's limit follows"
 abbrev pub max_sheet : ℕ
-max_sheet = 2572
+max_sheet = 10252
 
 -- "u16 sheet length": its bytes
 abbrev pub length_size : ℕ
 length_size = 2
 
--- "input that ends before the sheet does, or a length above 2,572"
+-- "input that ends before the sheet does, or a length above" the limit
 unfoldable pub is_cut : List ℕ → Bool
 is_cut input =
     ltb (length input) length_size || (ltb max_sheet (word length_size input) || ltb (length input) (length_size + word length_size input))

@@ -9,7 +9,7 @@ use Rattle.tween.specs.Cases.{Case, case_holds}
 use Rattle.tween.specs.Cases as tween
 use Rattle.steps.specs.declared.Entry.{Entry}
 use Rattle.steps.specs.declared.Row.{Row}
-use Rattle.steps.specs.Times.{two_f, local_time}
+use Rattle.steps.specs.Times.{max_entries, two_f, local_time}
 use Rattle.clock.specs.declared.TimelineState.{TimelineState}
 use Rattle.clock.specs.declared.TimelineState.TheVariants.{Idle, Playing, Paused, Completed}
 use Rattle.track.specs.Tracks.{live, track_base, track_run, progress_of}
@@ -90,7 +90,7 @@ minus_five_f = of_bits binary32 0xc0a00000
 
 -- row slices that have room for every entry
 abbrev rooms : Room
-rooms = record { kinds = 64; amounts = 64; places = 64 }
+rooms = record { kinds = max_entries; amounts = max_entries; places = max_entries }
 
 -- labels `a`, `b` and `x`
 abbrev a : List ℕ

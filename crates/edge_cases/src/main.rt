@@ -7,6 +7,7 @@ ghost use Rattle.std.specs.Prelude.{T};
 ghost use Rattle.edge_cases.specs.Edges.{all_hold, edges};
 
 use group::group::AnimationGroup;
+use group::sequence::Sequence;
 use refusal::{Refusal, number_if, number_in};
 use std::io::{Print, Stdout};
 use timeline::timeline::{At, Timeline};
@@ -17,8 +18,10 @@ use tween::{GridOrigin, StaggerPattern};
 fn main(rt: HostRuntime) {
     let stdout = rt.stdout();
     edges_hold();
-    line(stdout, "64 entries", number_in(&filled(64)));
-    line(stdout, "65 entries", number_in(&filled(65)));
+    for n in [64, 65, 255, 256, 257] {
+        filled_to(stdout, n);
+        sequenced_to(stdout, n);
+    }
     line(
         stdout,
         "label of 24",
@@ -51,6 +54,37 @@ fn filled(n: usize) -> Result<Timeline, Refusal> {
         t = t.add(b"a", At::End, 1.0)?;
     }
     Ok(t)
+}
+
+// A line for a panel of n entries.
+fn filled_to(stdout: Stdout, n: usize) {
+    println!(stdout; "{n} entries: {}", number_in(&filled(n))).is_ok();
+}
+
+// Two lines for a sequence of n items of a second: the last by `then`, and by `then_for` with a label that is too long, if it is not
+// refused by 1 before that.
+fn sequenced_to(stdout: Stdout, n: usize) {
+    let Ok(before) = sequenced(n.saturating_sub(1)) else {
+        return;
+    };
+    let then = before.then(b"a", 1.0);
+    let long = before.then_for(b"abcdefghijklmnopqrstuvwxy", 1.0);
+    let cursor = float32::to_u32(then.unwrap_or(before).gap(2.0).cursor());
+    println!(stdout;
+        "- {n} in sequence: {}, {cursor} s after a gap of 2",
+        number_in(&then)
+    )
+    .is_ok();
+    println!(stdout; "- the last with a label of 25: {}", number_in(&long)).is_ok();
+}
+
+// n items of a second.
+fn sequenced(n: usize) -> Result<Sequence, Refusal> {
+    let mut items = Sequence::new();
+    for _ in 0..n {
+        items = items.then(b"a", 1.0)?;
+    }
+    Ok(items)
 }
 
 // An entry with this label.

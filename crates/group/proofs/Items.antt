@@ -32,11 +32,11 @@ label_length : (i : ℕ) → length (item_label i) ≡ 5 + length (decimal i)
 unfolding item_label
 label_length i = length-append item_prefix (decimal i)
 
--- the labels of 64 items are not too long
+-- the labels of 256 items are not too long
 pub label_fits_lem : (i : ℕ) → i < max_entries → length (item_label i) ≤ max_label
 label_fits_lem i h =
-    let k : i < 10 ^ 2 = omega arith in
-    omega (arith, label_length i, decimal-least i 2 (lit≤ tt) k)
+    let k : i < 10 ^ 3 = omega arith in
+    omega (arith, label_length i, decimal-least i 3 (lit≤ tt) k)
 
 -- the first bytes, n of them after `item_`, are a label
 pub record Labeled (i n : ℕ) (bytes : List ℕ) : Type 0 where
@@ -60,7 +60,7 @@ labeled i n old new count h l front p or =
 
 -- ---- refusals
 
--- where there is room, there are at most 64 items
+-- where there is room, there are at most 256 items
 pub room : (n : ℕ) → too_many n ≡ accepted → n ≤ max_entries
 unfolding too_many
 room n e = go (ltb max_entries n) refl e

@@ -42,7 +42,7 @@ pub record Claim : Type 0 where
   pub group-staggers : (ds : List Float) (p : StaggerPattern) → Covered (stagger_of ds p).timeline
   -- each control of a covered group leaves a covered one
   pub controls : (g : AnimationGroup) → CoveredGroup g → Controlled g
-  -- up to 64 items, no call of a builder is refused, wherever the items start
+  -- up to 256 items, no call of a builder is refused, wherever the items start
   pub accepts : (at : ℕ → At) (ds : List Float) → length ds ≤ max_entries → AllBuild empty (item_calls at 0 ds)
   -- a pattern that refuses one index refuses all
   pub patterns : (p : StaggerPattern) (i : ℕ) → number_in (delay_of p i) ≡ number_in (delay_of p 0)

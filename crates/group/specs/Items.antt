@@ -23,7 +23,7 @@ unfoldable pub item_calls : (ℕ → At) → ℕ → List Float → List Call
 item_calls at i [] = []
 item_calls at i (d ∷ ds) = Add (item_label i) (at i) d ∷ item_calls at (i + 1) ds
 
--- 1: "an entry past the 64th", for n items
+-- 1: an entry past the 256th, for n items
 unfoldable pub too_many : ℕ → ℕ
 too_many n = cond (ltb max_entries n) timeline_full accepted
 
@@ -50,6 +50,6 @@ handed_out b = record { refusal = number_if b.refusal; timeline = b.panel }
 abbrev pub hands_out : Result Timeline Refusal → HandedOut
 hands_out r = record { refusal = number_in r; timeline = held_or empty r }
 
--- asked for the place of any of 64 items, a closure with these results gives what `at` says
+-- asked for the place of any of 256 items, a closure with these results gives what `at` says
 abbrev pub Gives : (ℕ → Result At Refusal → Type 0) → (ℕ → At) → Type 0
 Gives post at = (i : ℕ) (r : Result At Refusal) → i < max_entries → post i r → r ≡ Ok (at i)

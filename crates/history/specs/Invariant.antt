@@ -22,7 +22,7 @@ abbrev pub AllSound : List Span → Type 0
 AllSound [] = Unit
 AllSound (s ∷ ss) = SoundSpan s × AllSound ss
 
--- "At most 64 entries", each array whole; every start and duration sound; the elapsed time may be a NaN, the scale is none
+-- "up to 256 entries", each array whole; every start and duration sound; the elapsed time may be a NaN, the scale is none
 pub record Invariant (t : Timeline) : Type 0 where
   pub count : t.track.count ≤ max_entries
   pub entries : length t.track.entries ≡ max_entries

@@ -9,23 +9,16 @@ use lib.Dec.{eqb}
 use lib.ListN.{length, take, drop, length-drop}
 use Rattle.words.specs.Words.{word}
 use Rattle.call_log.specs.Lines.{shown, shown_all}
-use Rattle.call_log.specs.Logs.{is_cut, script_in, track_in, sheet_number, after_calls, log_of, log_bytes}
+use Rattle.call_log.specs.Logs.{script_in, track_in, sheet_number, after_calls, log_of, log_bytes}
 use Rattle.call_log.specs.Machine.{open_line, open_log}
 use Rattle.log_history.specs.Turns.{run_from, front_size, printed, door_of, after_turns}
 use Rattle.log_history.specs.Claim.{Prints, in_all, NothingLost, EndsWhole, Claim}
-use Rattle.log_history.proofs.Fronts.{front_only, front-size, opens-front}
-use Rattle.call_log.proofs.Opening.{uncut, number_cut, open-refused, open-accepted}
+use Rattle.log_history.proofs.Fronts.{front_only, whole, front-size, opens-front}
+use Rattle.call_log.proofs.Opening.{open-refused, open-accepted}
 use Rattle.log_history.proofs.Worked.{nan_shown, worked}
 use Rattle.log_history.proofs.Runs.{closed_runs, open-runs}
 use Rattle.log_history.proofs.Turns.{enough_runs, goes_on, turns-keep}
-
--- an accepted sheet is not cut
-whole : (input : List ℕ) → sheet_number input ≡ 0 → is_cut input ≡ false
-whole input e = go (is_cut input) refl
-  where
-    go : (b : Bool) → is_cut input ≡ b → b ≡ false
-    go true c = let n = number_cut input c in absurd (omega arith)
-    go false c = refl
+use Rattle.log_history.proofs.Stored.{takes_all, keeps_old_logs, meets_old_log}
 
 -- the log of a sheet that is refused, and of one that is accepted
 prints_as : (b : Bool) (input : List ℕ) → eqb (sheet_number input) 0 ≡ b → length input < 18446744073709551615
@@ -39,7 +32,7 @@ prints_as true input e h =
     let o = open-accepted input n in
     let l = length-drop (2 + word 2 input) input in
     let t = track_in input in
-    rw (o.0, o.1, front-size input (uncut input (whole input n)), open-runs t (script_in input) (length input) 0 (script_in input) t refl refl (omega arith) (omega arith), e)
+    rw (o.0, o.1, front-size input (whole input n), open-runs t (script_in input) (length input) 0 (script_in input) t refl refl (omega arith) (omega arith), e)
 
 prints : Prints
 unfolding printed
@@ -69,6 +62,9 @@ claim =
       nothing_lost = nothing_lost;
       ends_whole = ends_whole;
       goes_on = goes_on;
+      takes_all = takes_all;
+      keeps_old_logs = keeps_old_logs;
+      meets_old_log = meets_old_log;
       nan_shown = nan_shown;
       worked = worked;
     }

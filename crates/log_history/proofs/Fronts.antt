@@ -14,7 +14,7 @@ use Rattle.std.specs.Option.{unwrap_or}
 use Rattle.track.specs.declared.track.Track.{Track}
 use Rattle.words.specs.Words.{word}
 use Rattle.sheet.specs.Build.{reading_of}
-use Rattle.call_log.specs.Logs.{is_cut, sheet_in, sheet_number, sheet_line, track_in, call_size}
+use Rattle.call_log.specs.Logs.{max_sheet, is_cut, sheet_in, sheet_number, sheet_line, track_in, call_size}
 use Rattle.call_log.specs.Machine.{sheet_room, new_log, open_line, open_log, next_lines, next_log}
 use Rattle.call_log.proofs.Fronts.{word-take, ltb-front, outcome-front}
 use Rattle.call_log.proofs.Opening.{Whole, uncut, number_cut, number-whole}
@@ -34,15 +34,23 @@ front_only (Some log) rest k h = rw (none-front rest k h, outcome-front log.trac
 
 -- ---- the front of the input
 
+-- an accepted sheet is not cut
+pub whole : (input : List ℕ) → sheet_number input ≡ 0 → Whole input
+whole input e = go (is_cut input) refl
+  where
+    go : (b : Bool) → is_cut input ≡ b → Whole input
+    go true c = let n = number_cut input c in absurd (omega arith)
+    go false c = uncut input c
+
 -- an input that is whole is not cut
-whole_uncut : (input : List ℕ) → Whole input → is_cut input ≡ false
+pub whole_uncut : (input : List ℕ) → Whole input → is_cut input ≡ false
 unfolding is_cut
-whole_uncut input w = rw (le-ltb (length input) 2 w.some, le-ltb 2572 (word 2 input) w.few, le-ltb (length input) (2 + word 2 input) w.fits)
+whole_uncut input w = rw (le-ltb (length input) 2 w.some, le-ltb max_sheet (word 2 input) w.few, le-ltb (length input) (2 + word 2 input) w.fits)
 
 -- an input that is cut has a front that is cut
 cut_front : (input : List ℕ) (k : ℕ) → 2 ≤ k → is_cut input ≡ true → is_cut (take k input) ≡ true
 unfolding is_cut
-cut_front input k h e = rw (ltb-front 2 k input h, word-take 2 k input h) (go (ltb (length input) 2) (ltb 2572 (word 2 input)) e)
+cut_front input k h e = rw (ltb-front 2 k input h, word-take 2 k input h) (go (ltb (length input) 2) (ltb max_sheet (word 2 input)) e)
   where
     go : (a b : Bool) → a || (b || ltb (length input) (2 + word 2 input)) ≡ true → a || (b || ltb (length (take k input)) (2 + word 2 input)) ≡ true
     go true b f = refl
@@ -53,7 +61,7 @@ cut_front input k h e = rw (ltb-front 2 k input h, word-take 2 k input h) (go (l
 module _ (input : List ℕ) (w : Whole input) where
   head-room : sheet_room (take 2 input) ≡ Some (word 2 input)
   unfolding sheet_room
-  head-room = rw (ltb-front 2 2 input (omega arith), word-take 2 2 input (omega arith), le-ltb (length input) 2 w.some, le-ltb 2572 (word 2 input) w.few)
+  head-room = rw (ltb-front 2 2 input (omega arith), word-take 2 2 input (omega arith), le-ltb (length input) 2 w.some, le-ltb max_sheet (word 2 input) w.few)
 
   pub front-size : front_size input ≡ 2 + word 2 input
   front-size = ap (λ (room : Option ℕ). 2 + unwrap_or room 0) head-room

@@ -3,4 +3,6 @@ pub mod Fronts
 pub mod Turns
 pub mod Runs
 pub mod Worked
+pub mod Before
+pub mod Stored
 pub mod Claim

@@ -1,12 +1,18 @@
--- What is claimed of logs: calling the functions in turn prints exactly the log of the definition, and the worked example.
-use Rattle.std.specs.Prelude.{ℕ, ◌≤◌, ◌<◌, ◌≡◌, Bool, Option, List, [], ◌∷◌, ◌++◌, length, take}
+-- What is claimed of logs: calling the functions in turn prints exactly the log of the definition, and the worked example; the limit
+-- takes every sheet, and an input whose sheet was accepted before panels had up to 256 entries keeps its log.
+use Rattle.std.specs.Prelude.{ℕ, ◌≤◌, ◌<◌, ◌≡◌, Bool, cond, Option, List, [], ◌∷◌, ◌++◌, ltb, length, take}
 use Rattle.std.specs.Float.{nan}
 use Rattle.float32.specs.Helpers.{to_bits}
+use Rattle.refusal.specs.Refusal.{accepted, sheet_length, sheet_count, refused_if}
+use Rattle.words.specs.Words.{word}
+use Rattle.sheet_format.specs.Check.{count_in, check_number}
+use Rattle.sheet.specs.Stored.{old_max_entries}
 use Rattle.call_log.specs.declared.Log.{Log}
 use Rattle.call_log.specs.Lines.{Called, shown, line_size}
-use Rattle.call_log.specs.Logs.{call_size, log_bytes}
+use Rattle.call_log.specs.Logs.{max_sheet, length_size, sheet_in, sheet_number, call_size, log_of, log_bytes}
 use Rattle.call_log.specs.Machine.{last_number, next_lines, next_log, least_bytes, batch_of}
 use Rattle.log_history.specs.Turns.{printed, to_come, Door, Turn, after_turns}
+use Rattle.log_history.specs.Stored.{old_max_sheet, old_sheet_number, old_lines}
 
 -- For any input of fewer bytes than a u64 counts: opening the log by the front of the input, and then making call by call to the end of
 -- the script, prints the log that paper 01 says.
@@ -39,6 +45,24 @@ abbrev pub GoesOn : Type 0
 GoesOn =
     (ended : Bool) (log : Option Log) (bytes : List ℕ) (room : ℕ) → least_bytes ended ≤ length bytes → line_size ≤ room
     → length (take call_size bytes) ≤ (batch_of ended log bytes room).used
+
+-- "The longest sheet is 10,252 bytes, and the log's limit follows": no sheet that the reader accepts is above it.
+abbrev pub TakesAll : Type 0
+TakesAll = (s : List ℕ) → check_number s ≡ accepted → length s ≤ max_sheet
+
+-- "Stored sheets keep their .. reading": an input whose sheet the log of before accepted is accepted now, and its log is the same.
+abbrev pub KeepsOldLogs : Type 0
+KeepsOldLogs = (input : List ℕ) → old_sheet_number input ≡ accepted → (sheet_number input ≡ accepted) × (log_of input ≡ old_lines input)
+
+-- "an older reader meets a longer sheet with 12 or 8, an older log with 8 or 7": of the inputs whose sheet is accepted now, the log of
+-- before refused those with more than 64 entries, by 7 where the sheet is above 2,572 bytes and else by 8. (12 does not arise: 256
+-- entries take 4,108 bytes.) The others it accepted.
+abbrev pub MeetsOldLog : Type 0
+MeetsOldLog =
+    (input : List ℕ) → sheet_number input ≡ accepted
+    → old_sheet_number input
+    ≡ refused_if (ltb old_max_entries (count_in (sheet_in input)))
+    (cond (ltb old_max_sheet (word length_size input)) sheet_length sheet_count) accepted
 
 -- The worked example: "Once, scale 1.0, `a` of 1.0 at Start, `b` of 0.5 at End; play, update 1.0, update 1.0". A line each for the length,
 -- the header, the loop number, the scale, two pairs, two records, the labels and three calls.
@@ -78,5 +102,8 @@ pub record Claim : Type 0 where
   pub nothing_lost : NothingLost
   pub ends_whole : EndsWhole
   pub goes_on : GoesOn
+  pub takes_all : TakesAll
+  pub keeps_old_logs : KeepsOldLogs
+  pub meets_old_log : MeetsOldLog
   pub nan_shown : NanShown
   pub worked : log_bytes example_input ≡ example_log

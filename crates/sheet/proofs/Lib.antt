@@ -2,5 +2,8 @@
 pub mod Adds
 pub mod Rewrite
 pub mod Taken
+pub mod Longer
+pub mod Stored
+pub mod Cases
 pub mod Readings
 pub mod Claim

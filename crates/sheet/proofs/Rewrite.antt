@@ -1,5 +1,5 @@
 -- An accepted sheet's description is written as its bytes: header, pairs, records and labels, each as it was read.
-use Prim.Native.Nat.{ℕ, zero, suc, ◌+◌, ◌-◌, ◌*◌, ◌≤◌}
+use Prim.Native.Nat.{ℕ, zero, suc, ◌+◌, ◌-◌, ◌*◌, ◌/◌, ◌%◌, ◌≤◌}
 use mathlib.Core.Path.{◌≡◌, refl, sym, ap, ◌∙◌}
 use mathlib.Core.Bool.{true, ◌&&◌}
 use mathlib.Core.List.{List, [], ◌∷◌, ◌++◌, append_assoc}
@@ -35,17 +35,17 @@ four (a ∷ b ∷ c ∷ []) h = absurd (omega arith)
 four (a ∷ b ∷ c ∷ d ∷ s) h = refl
 
 -- four bytes and two words, written as they were read
-twelve : (s : List ℕ) (a b : ℕ) → 12 ≤ length s → Bytes s → byte_at s 2 ≡ a → byte_at s 3 ≡ b
-    → (byte_at s 0 ∷ byte_at s 1 ∷ a ∷ b ∷ []) ++ (bytes_of 4 (word 4 (drop 4 s)) ++ bytes_of 4 (word 4 (drop 8 s))) ≡ take 12 s
-twelve s a b h y e f =
+twelve : (s : List ℕ) (n a b : ℕ) → 12 ≤ length s → Bytes s → byte_at s 1 ≡ n → byte_at s 2 ≡ a → byte_at s 3 ≡ b
+    → (byte_at s 0 ∷ n ∷ a ∷ b ∷ []) ++ (bytes_of 4 (word 4 (drop 4 s)) ++ bytes_of 4 (word 4 (drop 8 s))) ≡ take 12 s
+twelve s n a b h y d e f =
     let l = length-drop 4 s in
     let m = length-drop 8 s in
     let p = bytes_word 4 (drop 4 s) (omega arith) (bytes_drop 4 s y) in
     let q = bytes_word 4 (drop 8 s) (omega arith) (bytes_drop 8 s y) in
-    let d : drop 8 s ≡ drop 4 (drop 4 s) = sym (drop-drop 4 4 s) in
-    let front : (byte_at s 0 ∷ byte_at s 1 ∷ a ∷ b ∷ []) ≡ take 4 s = rw (← e, ← f) (sym (four s (omega arith))) in
+    let g : drop 8 s ≡ drop 4 (drop 4 s) = sym (drop-drop 4 4 s) in
+    let front : (byte_at s 0 ∷ n ∷ a ∷ b ∷ []) ≡ take 4 s = rw (← d, ← e, ← f) (sym (four s (omega arith))) in
     ap (λ (l : List ℕ). l ++ (bytes_of 4 (word 4 (drop 4 s)) ++ bytes_of 4 (word 4 (drop 8 s)))) front
-    ∙ rw (p, q, d, ← take-add 4 4 (drop 4 s)) (sym (take-add 4 8 s))
+    ∙ rw (p, q, g, ← take-add 4 4 (drop 4 s)) (sym (take-add 4 8 s))
 
 -- ---- the items of a sheet
 
@@ -113,7 +113,7 @@ module _ (s : List ℕ) where
         let b = and_parts (eqb (byte_at records 2) 0) (eqb (byte_at records 3) 0) a.0 in
         let r = placement_back n (kind_in records) (target_in records) (seconds_in records) p.0 a.1 in
         record {
-          same = rw (r.kind-same, r.target-same, r.seconds-same) (twelve records 0 0 h y (eqb-true _ _ b.0) (eqb-true _ _ b.1));
+          same = rw (r.kind-same, r.target-same, r.seconds-same) (twelve records (byte_at records 1) 0 0 h y refl (eqb-true _ _ b.0) (eqb-true _ _ b.1));
           good = r.good;
         }
 
@@ -164,7 +164,9 @@ module _ (s : List ℕ) (y : Bytes s) (a : Accepted s) where
   header-same =
       let h = a.header in
       let l = loop_back (byte_at s 2) (word 4 (drop 4 s)) h.looping in
-      rw (l.mode-same, l.number_same) (rw h.version at (twelve s (byte_at s 2) 0 h.long y refl h.zero))
+      let low : byte_at s 1 ≡ count_in s % 256 = omega (arith, y 1) in
+      let high : byte_at s 3 ≡ count_in s / 256 = omega (arith, y 1) in
+      rw (l.mode-same, l.number_same) (rw h.version at (twelve s (count_in s % 256) (byte_at s 2) (count_in s / 256) h.long y low refl high))
 
   pub sheet-same : sheet_of (description_in s) ≡ s
   unfolding sheet_of description_in

@@ -1,2 +1,4 @@
 pub mod Build
+pub mod Stored
+pub mod Cases
 pub mod Claim

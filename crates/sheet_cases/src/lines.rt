@@ -22,7 +22,7 @@ use timeline::timeline::Timeline;
 use tween::Loop;
 
 // The longest sheet.
-pub const SHEET: usize = 4096;
+pub const SHEET: usize = 12_000;
 
 // What the room holds before a sheet is written.
 pub const OLD: u8 = 238;

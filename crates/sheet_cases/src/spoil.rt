@@ -1,6 +1,6 @@
 // The writer's refusals: the description of an accepted sheet, spoiled, in a room of `size` bytes.
 //
-// a: the count is 65. b: the last label is 25 long. c: the last entry is placed at the label of entry n, which is none.
+// a: the count is 257. b: the last label is 25 long. c: the last entry is placed at the label of entry n, which is none.
 // d: a and b. e: a and c. f: b and c. g: b and c, with no room. h: b, and the first entry is placed as in c.
 // Without entries b and c spoil nothing.
 use crate::lines::{OLD, SHEET};

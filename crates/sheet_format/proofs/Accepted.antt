@@ -17,7 +17,6 @@ use Rattle.std.proofs.lemmas.Bool.{and_parts}
 pub record Header (s : List ℕ) : Type 0 where
   pub long : header_size ≤ length s
   pub version : byte_at s 0 ≡ 1
-  pub zero : byte_at s 3 ≡ 0
   pub few : count_in s ≤ max_entries
   pub looping : loop_good (byte_at s 2) (word 4 (drop 4 s)) ≡ true
   pub room : labels_at (count_in s) ≤ length s
@@ -27,17 +26,15 @@ unfolding header_number
 header-accepted s e =
     let a = passed _ 6 _ e in
     let b = passed_good _ 5 _ a.1 in
-    let c = passed_good _ 11 _ b.1 in
-    let d = passed _ 7 _ c.1 in
-    let f = passed_good _ 8 _ d.1 in
-    let g = passed _ 6 _ f.1 in
+    let c = passed _ 7 _ b.1 in
+    let d = passed_good _ 8 _ c.1 in
+    let f = passed _ 6 _ d.1 in
     record {
       long = ltb-false _ _ a.0;
       version = eqb-true _ _ b.0;
-      zero = eqb-true _ _ c.0;
-      few = ltb-false _ _ d.0;
-      looping = f.0;
-      room = ltb-false _ _ g.0;
+      few = ltb-false _ _ c.0;
+      looping = d.0;
+      room = ltb-false _ _ f.0;
     }
 
 pub record Accepted (s : List ℕ) : Type 0 where

@@ -33,7 +33,7 @@ header-accepts : (s : List ℕ) → Header s → header_number s ≡ 0
 unfolding header_number
 header-accepts s h =
     rw
-    (le-ltb _ _ h.long, eq-eqb _ _ h.version, eq-eqb _ _ h.zero, le-ltb _ _ h.few, h.looping, le-ltb _ _ h.room)
+    (le-ltb _ _ h.long, eq-eqb _ _ h.version, le-ltb _ _ h.few, h.looping, le-ltb _ _ h.room)
 
 pub check_accepts : (s : List ℕ) → Accepted s → check_number s ≡ 0
 unfolding check_number
@@ -218,17 +218,13 @@ module _ (d : Description) (t : Typed d) (z : describe_number d ≡ 0) where
   unfolding sheet_of header_bytes
   version-said = refl
 
-  count-said : byte_at (sheet_of d) 1 ≡ d.count
+  count-said : count_in (sheet_of d) ≡ d.count
   unfolding sheet_of header_bytes
-  count-said = refl
+  count-said = omega arith
 
   mode-said : byte_at (sheet_of d) 2 ≡ mode_of d.looping
   unfolding sheet_of header_bytes
   mode-said = refl
-
-  zero-said : byte_at (sheet_of d) 3 ≡ 0
-  unfolding sheet_of header_bytes
-  zero-said = refl
 
   number-said : word 4 (drop 4 (sheet_of d)) ≡ number_of d.looping
   unfolding sheet_of header_bytes
@@ -250,7 +246,6 @@ module _ (d : Description) (t : Typed d) (z : describe_number d ≡ 0) where
       record {
         long = omega arith;
         version = version-said;
-        zero = zero-said;
         few = rw count-said g.few;
         looping = rw (mode-said, number-said) (loop_good_lem d.looping);
         room = rw count-said (omega arith);

@@ -149,14 +149,16 @@ target_at m [] i d g h = absurd (not-suc-le-zero h)
 target_at m (x ∷ xs) zero d g h = (and_parts (target_good m x.at) (targets_good m xs) g).0
 target_at m (x ∷ xs) (suc i) d g h = target_at m xs i d (and_parts (target_good m x.at) (targets_good m xs) g).1 (le_of_suc-le-suc h)
 
--- the target of a good placement is below the count, or 0
-pub target_below : (m : ℕ) (at : Placement) → target_good m at ≡ true → target_of at ≤ m
-target_below m (Absolute s) g = omega arith
-target_below m Start g = omega arith
-target_below m End g = omega arith
-target_below m (Labeled k) g = omega (arith, ltb-true k m g)
-target_below m (Offset s) g = omega arith
+-- the target of a good placement is below the count, where there are entries
+pub target_below : (m : ℕ) (at : Placement) → 0 < m → target_good m at ≡ true → target_of at < m
+target_below m (Absolute s) h g = h
+target_below m Start h g = h
+target_below m End h g = h
+target_below m (Labeled k) h g = ltb-true k m g
+target_below m (Offset s) h g = h
 
 -- so it fits a byte
-pub target_small : (m : ℕ) (xs : List Item) (i : ℕ) (d : Item) → m ≤ max_entries → targets_good m xs ≡ true → i < length xs → target_of (get_or xs i d).at < 256
-target_small m xs i d f g h = omega (arith, target_below m (get_or xs i d).at (target_at m xs i d g h))
+pub target_small : (xs : List Item) (i : ℕ) (d : Item) → length xs ≤ max_entries → targets_good (length xs) xs ≡ true → i < length xs → target_of (get_or xs i d).at < 256
+target_small xs i d f g h =
+    let below = target_below (length xs) (get_or xs i d).at (omega arith) (target_at (length xs) xs i d g h) in
+    omega arith

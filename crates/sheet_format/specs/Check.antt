@@ -12,15 +12,15 @@ records_at n = header_size + pair_size * n
 
 -- ---- the header
 
--- "count n"
+-- "count n"; "byte 3 becomes the high byte of the count"
 abbrev pub count_in : List ℕ → ℕ
-count_in s = byte_at s 1
+count_in s = byte_at s 1 + 256 * byte_at s 3
 
 -- "7 if below 12 bytes", then the other checks of the header
 unfoldable pub header_number : List ℕ → ℕ
 header_number s =
     refused_if (ltb (length s) header_size) sheet_length
-    (header_refusal (length s) (byte_at s 0) (count_in s) (byte_at s 2) (byte_at s 3) (word 4 (drop 4 s)))
+    (header_refusal (length s) (byte_at s 0) (count_in s) (byte_at s 2) (word 4 (drop 4 s)))
 
 -- ---- the pairs
 

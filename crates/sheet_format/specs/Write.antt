@@ -1,5 +1,5 @@
 -- The bytes that a description is written as, and when it is refused. Definitions only.
-use Rattle.std.specs.Prelude.{ℕ, ◌+◌, ◌≤◌, ◌≡◌, Bool, true, cond, not, ◌&&◌, List, [], ◌∷◌, ◌++◌, eqb, leb, ltb, length, take, drop, Result}
+use Rattle.std.specs.Prelude.{ℕ, ◌+◌, ◌/◌, ◌%◌, ◌≤◌, ◌≡◌, Bool, true, cond, not, ◌&&◌, List, [], ◌∷◌, ◌++◌, eqb, leb, ltb, length, take, drop, Result}
 use Rattle.refusal.specs.declared.Refusal.{Refusal}
 use Rattle.refusal.specs.Refusal.{accepted, sheet_count, sheet_placement, sheet_pair, room_too_short, refused_if, number_in, held_or}
 use Rattle.steps.specs.Times.{max_entries}
@@ -15,9 +15,9 @@ use Rattle.sheet_format.specs.Descriptions.{items_in, described_by, cleaned}
 
 -- ---- the bytes
 
--- "Byte 0 version, 1 count n, 2 mode, 3 zero; 4 to 7 loop number; 8 to 11 scale bits"
+-- "Byte 0 version, 1 count n, 2 mode .. 4 to 7 loop number; 8 to 11 scale bits"; "byte 3 becomes the high byte of the count"
 unfoldable pub header_bytes : ℕ → Loop → ℕ → List ℕ
-header_bytes n looping scale = (1 ∷ n ∷ mode_of looping ∷ 0 ∷ []) ++ (bytes_of 4 (number_of looping) ++ bytes_of 4 scale)
+header_bytes n looping scale = (1 ∷ n % 256 ∷ mode_of looping ∷ n / 256 ∷ []) ++ (bytes_of 4 (number_of looping) ++ bytes_of 4 scale)
 
 -- how long an entry's label is
 abbrev pub text_length : Item → ℕ

@@ -1,5 +1,6 @@
 // The header: version, count, mode, loop number, scale bits.
 ghost use Rattle.std.specs.Prelude.{◌≡◌, ◌≤◌, length};
+ghost use Rattle.steps.specs.Times.{max_entries};
 ghost use Rattle.digits.specs.Digits.{put_at};
 ghost use Rattle.sheet_rules.specs.Rules.{header_size, labels_at};
 ghost use Rattle.sheet_format.specs.Check.{records_at, count_in};
@@ -12,7 +13,7 @@ use words::PAIR_SIZE;
 
 // Where the records of n entries start.
 pub(crate) fn records_at(n: usize) -> usize
-    requires { n ≤ 255 }
+    requires { n ≤ max_entries }
     ensures { result ≡ records_at n }
 {
     HEADER_SIZE + PAIR_SIZE * n
@@ -20,28 +21,30 @@ pub(crate) fn records_at(n: usize) -> usize
 
 // Where the labels of n entries start.
 pub(crate) fn labels_at(n: usize) -> usize
-    requires { n ≤ 255 }
+    requires { n ≤ max_entries }
     ensures { result ≡ labels_at n }
 {
     HEADER_SIZE + (PAIR_SIZE + RECORD_SIZE) * n
 }
 
-// How many entries the header says; 0 where it is cut before that.
+// How many entries the header says, by its low and its high byte; a byte that is cut off is 0.
 pub fn count(sheet: &[u8]) -> usize
     ensures { result ≡ count_in sheet.now }
 {
     match sheet {
-        [_, n, ..] => usize::from(*n),
+        [_, low, _, high, ..] => usize::from(u16::from_le_bytes([*low, *high])),
+        [_, low, ..] => usize::from(*low),
         _ => 0,
     }
 }
 
 // Writes the header.
-pub(crate) fn put_header(room: &mut [u8], n: u8, looping: Loop, scale: u32)
+pub(crate) fn put_header(room: &mut [u8], n: u16, looping: Loop, scale: u32)
     requires { header_size ≤ length room.old }
     ensures { room.new ≡ put_at (header_bytes n looping scale) 0 room.old }
 {
-    put(room, 0, &[VERSION, n, looping.mode(), 0]);
+    let [low, high] = n.to_le_bytes();
+    put(room, 0, &[VERSION, low, looping.mode(), high]);
     put(room, 4, &looping.number().to_le_bytes());
     put(room, 8, &scale.to_le_bytes());
 }

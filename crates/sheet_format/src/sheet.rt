@@ -11,7 +11,7 @@ ghost use Rattle.sheet_format.specs.Descriptions.{blank_item, item_of, items_fro
 ghost use Rattle.sheet_format.specs.Check.{records_at, count_in, header_number, pairs_number, record_in, record_number, records_number};
 
 use crate::description::Item;
-use crate::header::{labels_at, records_at};
+use crate::header::{count, labels_at, records_at};
 use label::Label;
 use refusal::Refusal;
 use sheet_rules::{HEADER_SIZE, Header, RECORD_SIZE, Record, pair_fits};
@@ -43,15 +43,14 @@ impl<'a> Sheet<'a> {
         }
         let header = Header {
             version: bytes[0],
-            count: bytes[1],
+            count: count(bytes),
             mode: bytes[2],
-            reserved: bytes[3],
             number: u32_at(bytes, 4),
         };
         let looping = header.looping(bytes.len())?;
         Ok(Sheet {
             bytes,
-            count: usize::from(header.count),
+            count: header.count,
             looping,
         })
     }

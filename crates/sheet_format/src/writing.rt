@@ -78,7 +78,7 @@ impl Description {
         ensures { room.new ≡ put_at (sheet_of self.now) 0 room.old }
     {
         let items = self.items();
-        put_header(room, self.count as u8, self.looping, self.time_scale);
+        put_header(room, self.count as u16, self.looping, self.time_scale);
         put_pairs(room, items);
         put_records(room, items);
         put_texts(room, items, labels_at(items.len()));

@@ -22,14 +22,13 @@ labels_at n = header_size + 16 * n
 abbrev pub loop_good : ℕ → ℕ → Bool
 loop_good mode number = leb mode 4 && (eqb mode 1 || (eqb mode 4 || eqb number 0))
 
--- "6; 12 for byte 3; 8; 9; 7 if below 12 + 16n", of a sheet of len bytes
-abbrev pub header_refusal : ℕ → ℕ → ℕ → ℕ → ℕ → ℕ → ℕ
-header_refusal len version n mode reserved number =
+-- "6; .. 8; 9; 7 if below 12 + 16n", of a sheet of len bytes; "byte 3 being checked with the count"
+abbrev pub header_refusal : ℕ → ℕ → ℕ → ℕ → ℕ → ℕ
+header_refusal len version n mode number =
     refused_if (not (eqb version 1)) sheet_version
-    (refused_if (not (eqb reserved 0)) sheet_zero
     (refused_if (ltb max_entries n) sheet_count
     (refused_if (not (loop_good mode number)) sheet_loop
-    (refused_if (ltb len (labels_at n)) sheet_length accepted))))
+    (refused_if (ltb len (labels_at n)) sheet_length accepted)))
 
 -- ---- a pair
 

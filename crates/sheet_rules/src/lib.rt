@@ -27,13 +27,12 @@ pub const MAX_SHEET: usize = HEADER_SIZE + MAX_ENTRIES * (PAIR_SIZE + RECORD_SIZ
 // The one version that there is.
 pub const VERSION: u8 = 1;
 
-// The header of a sheet, as it stands there, without the scale bits: bytes that are not checked yet, so numbers.
+// The header of a sheet, as it stands there, without the scale bits: what is not checked yet, so numbers.
 #[derive(Clone, Copy, Debug, PartialEq, Eq)]
 pub struct Header {
     pub version: u8,
-    pub count: u8,
+    pub count: usize,
     pub mode: u8,
-    pub reserved: u8,
     pub number: u32,
 }
 
@@ -52,21 +51,17 @@ impl Header {
 
     // The loop mode of a sheet of len bytes, or why its header is refused. Where it is accepted, all pairs and records are in the sheet.
     pub fn looping(self, len: usize) -> Result<Loop, Refusal>
-        ensures number { number_in result ≡ header_refusal len self.version self.count self.mode self.reserved self.number }
+        ensures number { number_in result ≡ header_refusal len self.version self.count self.mode self.number }
         ensures value { IfOk result (λ looping. looping ≡ loop_of self.mode self.number) }
     {
-        let n = usize::from(self.count);
         if self.version != VERSION {
             return Err(Refusal::SheetVersion);
         }
-        if self.reserved != 0 {
-            return Err(Refusal::SheetZero);
-        }
-        if n > MAX_ENTRIES {
+        if self.count > MAX_ENTRIES {
             return Err(Refusal::SheetCount);
         }
         let looping = self.loop_mode()?;
-        if len < HEADER_SIZE + (PAIR_SIZE + RECORD_SIZE) * n {
+        if len < HEADER_SIZE + (PAIR_SIZE + RECORD_SIZE) * self.count {
             return Err(Refusal::SheetLength);
         }
         Ok(looping)

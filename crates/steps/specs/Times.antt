@@ -9,9 +9,9 @@ use Rattle.tween.specs.declared.loop_mode.Loop.{Loop}
 use Rattle.tween.specs.declared.loop_mode.Loop.TheVariants.{Once, Times, Forever, PingPong, PingPongTimes}
 use Rattle.steps.specs.declared.Entry.{Entry}
 
--- "At most 64 entries"
+-- "up to 256 entries"
 abbrev pub max_entries : ℕ
-max_entries = 64
+max_entries = 256
 
 -- 2.0
 abbrev pub two_f : Float

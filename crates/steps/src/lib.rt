@@ -12,7 +12,7 @@ ghost use Rattle.steps.specs.Cases.{all_hold, table};
 use tween::Loop;
 
 // How many entries a timeline holds at most.
-pub const MAX_ENTRIES: usize = 64;
+pub const MAX_ENTRIES: usize = 256;
 
 // What a row's kind is made of: the number of resets, an update by the amount, a seek to the place.
 pub const RESET: u8 = 1;

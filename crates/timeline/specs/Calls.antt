@@ -30,7 +30,7 @@ pub record Out : Type 0 where
 abbrev pub silent : ℕ → Timeline → Out
 silent n t = record { refusal = n; timeline = t; rows = []; running = false; completed = false; listed = [] }
 
--- "1: an entry past the 64th. 2: an entry's own label above 24 bytes (after 1)"
+-- 1: an entry past the 256th ("1 and 8 move to 256"). "2: an entry's own label above 24 bytes (after 1)"
 unfoldable pub added_at : Timeline → List ℕ → Float → Float → Out
 added_at t label start duration =
     cond (leb max_entries t.track.count) (silent timeline_full t)

@@ -58,14 +58,11 @@ fn count(sheet: &[u8]) -> Result<usize, u8> {
     let Some((header, rest)) = sheet.split_first_chunk::<12>() else {
         return Err(7);
     };
-    let n = usize::from(header[1]);
+    let n = usize::from(header[1]) + 256 * usize::from(header[3]);
     if header[0] != 1 {
         return Err(6);
     }
-    if header[3] != 0 {
-        return Err(12);
-    }
-    if n > 64 {
+    if n > 256 {
         return Err(8);
     }
     if header[2] > 4 || !matches!(header[2], 1 | 4) && !is_zero(&header[4..8]) {

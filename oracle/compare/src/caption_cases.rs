@@ -3,7 +3,7 @@
 
 use crate::damage;
 use crate::lists;
-use crate::reader;
+use crate::reader::{self, Described};
 use crate::rng::Rng;
 use crate::venue::{self, Caption};
 use std::fmt::Write as _;
@@ -168,15 +168,26 @@ fn good(push: &mut dyn FnMut(Case)) {
             }
         }
     }
-    let sheet = lists::sheet_of_64();
-    let labels = lists::labels(&sheet);
-    let words = |label: &Vec<u8>| (label.clone(), [b"= ", &label[..]].concat());
-    let all: lists::Words = labels.iter().rev().map(words).collect();
-    let half = all.iter().step_by(2).cloned().collect();
-    for list in [lists::write(&all), lists::write(&half)] {
-        for entry in (0..64).chain(entries(64)) {
-            push(Case::new(&list, &sheet, entry));
+    for count in [64, 65, 255, 256] {
+        let sheet = lists::sheet_of(count as usize);
+        let labels = lists::labels(&sheet);
+        let words = |label: &Vec<u8>| (label.clone(), [b"= ", &label[..]].concat());
+        let all: lists::Words = labels.iter().rev().map(words).collect();
+        let half = all.iter().step_by(2).cloned().collect();
+        for list in [lists::write(&all), lists::write(&half)] {
+            for entry in (0..count).chain(entries(count)) {
+                push(Case::new(&list, &sheet, entry));
+            }
         }
+    }
+    let longest = lists::sheet(&[&[b'l'; 24][..]; 256]);
+    for entry in entries(256) {
+        push(Case::new(
+            &lists::write(&lists::small()[12]),
+            &longest,
+            entry,
+        ));
+        push(Case::new(&[0, 0], &longest, entry));
     }
 }
 
@@ -205,16 +216,29 @@ fn damaged_lists(push: &mut dyn FnMut(Case)) {
     }
 }
 
-/// Small sheets with every bit flipped, every truncation, bytes after the end, and other fields.
+/// Small sheets with every bit flipped, every truncation, bytes after the end, other fields, and other counts
+/// with each byte 3; long ones with other fields and counts; and those of too many entries.
 fn damaged_sheets(push: &mut dyn FnMut(Case)) {
     let list = lists::write(&lists::small()[9]);
     for sheet in &lists::sheets()[..4] {
         let mut faults = [damage::flips(sheet), damage::cuts(sheet)].concat();
         faults.extend(damage::appended(sheet));
         faults.extend(damage::fields(sheet));
+        faults.extend(damage::counts(sheet));
+        faults.extend(damage::high_bytes(sheet));
         for (number, fault) in (0..).zip(faults) {
             push(Case::new(&list, &fault.applied(sheet), number % 3));
         }
+    }
+    for sheet in [65, 255, 256].map(lists::sheet_of) {
+        let faults = [damage::fields(&sheet), damage::counts(&sheet)].concat();
+        for (fault, entry) in faults.iter().zip([0, 64, 255].iter().cycle()) {
+            push(Case::new(&list, &fault.applied(&sheet), *entry));
+        }
+    }
+    for sheet in damage::too_many() {
+        push(Case::new(&list, &sheet, 0));
+        push(Case::new(&list, &sheet, 256));
     }
 }
 
@@ -234,7 +258,7 @@ fn both_damaged(push: &mut dyn FnMut(Case)) {
     let mut all = bad_lists();
     all.push(lists::write(&lists::small()[8]));
     for sheet in &lists::sheets()[1..3] {
-        for fault in damage::fields(sheet) {
+        for fault in [damage::fields(sheet), damage::counts(sheet)].concat() {
             let damaged = fault.applied(sheet);
             for list in &all {
                 for entry in entries(count(sheet)) {
@@ -292,10 +316,26 @@ pub fn fixed() -> Vec<Case> {
 const ONE_LONG_IN: u32 = 8000;
 
 pub fn random(rng: &mut Rng) -> Case {
-    let mut sheet = match rng.below(32) {
+    let sheet = match rng.below(32) {
         0 => damage::noise(rng),
         _ => damage::random(rng),
     };
+    random_with(rng, sheet)
+}
+
+/// With a sheet of more than 64 entries, or with another count.
+pub fn random_long(rng: &mut Rng) -> Case {
+    let mut sheet = match rng.below(8) {
+        0 => damage::random_longest(rng),
+        _ => damage::random_long(rng),
+    };
+    if rng.below(8) == 0 {
+        damage::random_count(rng).apply(&mut sheet);
+    }
+    random_with(rng, sheet)
+}
+
+fn random_with(rng: &mut Rng, mut sheet: Vec<u8>) -> Case {
     let labels = lists::labels(&sheet);
     let entry = match rng.below(24) {
         0 => labels.len() as u32 + rng.below(3),
@@ -350,7 +390,7 @@ pub fn sample() -> Vec<Case> {
         let entries = entries(count(sheet)).into_iter();
         cases.extend(entries.map(|entry| Case::new(&list, sheet, entry)));
     }
-    let of_64 = lists::sheet_of_64();
+    let of_64 = lists::sheet_of(64);
     cases.extend([0, 24, 63, 64].map(|entry| Case::new(&lists::write(&small[0]), &of_64, entry)));
     for words in [&small[1], &small[6], &small[8]] {
         let good = lists::write(words);
@@ -361,29 +401,76 @@ pub fn sample() -> Vec<Case> {
         cases.extend(numbered.map(|(number, list)| Case::new(&list, &sheets[3], number % 3)));
     }
     cases.extend(sampled_sheets(&sheets[2]));
+    cases.extend(sampled_numbers(&sheets[2], SHEET, reader::old_read));
     let mut rng = Rng::new(1);
     let random = std::iter::repeat_with(|| random(&mut rng));
     let random = random.filter(|case| case.record().len() <= SAMPLED_BYTES);
     cases.extend(random.take(SAMPLED));
+    // the records above are those of before S-2, those below are of it
+    let moved = [8, 12].into_iter();
+    cases.extend(sampled_numbers(&sheets[2], moved, reader::read));
+    cases.extend(sampled_long_sheets());
     cases
 }
 
-/// Each field of the sheet damaged, with a good list or a bad one; and for each number one such sheet with
-/// either list, and with an entry that is there and one that is not.
+/// Sheets of 65, 255 and 256 entries, of which the last has a code and most have empty labels; and such with
+/// other counts.
+fn sampled_long_sheets() -> Vec<Case> {
+    let list = lists::write(&lists::words(&[(b"last", b"The last"), (b"a", b"A")]));
+    let sheet = |count: usize| {
+        let mut labels: Vec<&[u8]> = vec![b""; count];
+        labels[64.min(count - 2)] = b"no code";
+        labels[count - 1] = b"last";
+        lists::sheet(&labels)
+    };
+    let [of_65, of_255, of_256] = [65, 255, 256].map(sheet);
+    let mut cases: Vec<Case> = Vec::new();
+    let mut ask = |sheet: &[u8], entries: &[u32]| {
+        cases.extend(entries.iter().map(|&entry| Case::new(&list, sheet, entry)));
+    };
+    ask(&of_65, &[63, 64, 65]);
+    ask(&of_255, &[254, 255]);
+    ask(&of_256, &[0, 64, 255, 256, 511, 65_536]);
+    ask(&lists::sheet(&[&b""[..]; 257]), &[0, 256]);
+    ask(&of_256[..of_256.len() - 1], &[255]);
+    let small = lists::sheet(&[b"last", b"a"]);
+    for fault in damage::counts(&small) {
+        ask(&fault.applied(&small), &[0]);
+    }
+    for fault in damage::high_bytes(&small).iter().step_by(103) {
+        ask(&fault.applied(&small), &[1]);
+    }
+    cases
+}
+
+/// Each field of the sheet damaged, with a good list or a bad one.
 fn sampled_sheets(sheet: &[u8]) -> Vec<Case> {
+    let lists = sampled_lists();
+    let faults = damage::fields(sheet);
+    let numbered = (0..).zip(&faults);
+    let case = |(number, fault): (usize, &damage::Fault)| {
+        let (list, entry) = (&lists[number % 2], [0, 1, 2][number % 3]);
+        Case::new(list, &fault.applied(sheet), entry)
+    };
+    numbered.map(case).collect()
+}
+
+/// A good list and a bad one.
+fn sampled_lists() -> [Vec<u8>; 2] {
     let good = lists::write(&lists::small()[8]);
     let bad = [&good[..], &[0]].concat();
+    [good, bad]
+}
+
+/// For each of these numbers one sheet that this reader refuses by it, with either list, and with an entry that
+/// is there and one that is not.
+fn sampled_numbers(sheet: &[u8], numbers: impl Iterator<Item = u8>, read: Read) -> Vec<Case> {
+    let [good, bad] = sampled_lists();
     let faults = damage::fields(sheet);
     let damaged: Vec<Vec<u8>> = faults.iter().map(|fault| fault.applied(sheet)).collect();
-    let numbered = (0..).zip(&damaged);
-    let mut cases: Vec<Case> = numbered
-        .map(|(number, damaged)| {
-            let list = [&good, &bad][number % 2];
-            Case::new(list, damaged, [0, 1, 2][number % 3])
-        })
-        .collect();
-    for number in SHEET {
-        let refused = |sheet: &&Vec<u8>| sheet.len() > 1 && reader::read(sheet) == Err(number);
+    let mut cases = Vec::new();
+    for number in numbers {
+        let refused = |sheet: &&Vec<u8>| sheet.len() > 1 && read(sheet) == Err(number);
         if let Some(damaged) = damaged.iter().find(refused) {
             for (list, entry) in [(&good, 0), (&bad, 0), (&good, u32::MAX), (&bad, u32::MAX)] {
                 cases.push(Case::new(list, damaged, entry));
@@ -392,6 +479,8 @@ fn sampled_sheets(sheet: &[u8]) -> Vec<Case> {
     }
     cases
 }
+
+type Read = fn(&[u8]) -> Result<Described, u8>;
 
 #[cfg(test)]
 mod tests {

@@ -28,6 +28,9 @@ enum Mistake {
     EntryOf8Bits,
     EntryOf16Bits,
     EntryUpToCount,
+    EntryUpTo63,
+    EntryUpTo254,
+    CountOf8Bits,
     CaptionOfRefused,
     NoCodesOfAnyLength,
     FirstUnchecked,
@@ -46,7 +49,7 @@ enum Mistake {
 }
 
 /// Those that short lists can show, and those that they cannot.
-const SHORT: [Mistake; 30] = [
+const SHORT: [Mistake; 33] = [
     Mistake::LastWins,
     Mistake::CodeStartsLabel,
     Mistake::LabelStartsCode,
@@ -65,6 +68,9 @@ const SHORT: [Mistake; 30] = [
     Mistake::EntryOf8Bits,
     Mistake::EntryOf16Bits,
     Mistake::EntryUpToCount,
+    Mistake::EntryUpTo63,
+    Mistake::EntryUpTo254,
+    Mistake::CountOf8Bits,
     Mistake::CaptionOfRefused,
     Mistake::NoCodesOfAnyLength,
     Mistake::FirstUnchecked,
@@ -102,6 +108,12 @@ fn with(mistake: Mistake, case: &Case) -> Answer {
         Mistake::EntryOf8Bits => *entry as usize % 256,
         Mistake::EntryOf16Bits => *entry as usize % 65_536,
         _ => *entry as usize,
+    };
+    let places = match mistake {
+        Mistake::EntryUpTo63 => &places[..places.len().min(64)],
+        Mistake::EntryUpTo254 => &places[..places.len().min(255)],
+        Mistake::CountOf8Bits => &places[..places.len() % 256],
+        _ => &places[..],
     };
     let place = match places.get(entry) {
         Some(&place) => place,

@@ -45,10 +45,15 @@ impl<'a> Seen<'a> {
         self.caption.refusal == CAPTION && self.codes.is_none()
     }
 
+    /// The count that the sheet claims; bytes that it has not are 0.
+    fn claimed(&self) -> u32 {
+        let byte = |at| self.case.sheet.get(at).map_or(0, |&byte| u32::from(byte));
+        byte(1) + 256 * byte(3)
+    }
+
     /// Not below the count that the sheet claims.
     pub fn bad_entry(&self) -> bool {
-        let count = self.case.sheet.get(1).map_or(0, |&n| u32::from(n));
-        self.case.entry >= count
+        self.case.entry >= self.claimed()
     }
 
     /// Whether a code of the list of an accepted caption is so.
@@ -162,6 +167,29 @@ const KINDS: [Kind; 30] = [
     }),
 ];
 
+/// Those of sheets of more than 64 entries.
+const LONG_SHEETS: [Kind; 7] = [
+    ("an entry from 64 on, from the list", |s| {
+        s.of_list() && s.case.entry > 63
+    }),
+    ("entry 64", |s| s.accepted() && s.case.entry == 64),
+    ("entry 255, from the list", |s| {
+        s.of_list() && s.case.entry == 255
+    }),
+    ("entry 255, from the sheet", |s| {
+        s.of_sheet() && s.case.entry == 255
+    }),
+    ("entry 256 of 256 entries", |s| {
+        s.case.entry == 256 && s.caption.refusal == CAPTION && !s.bad_list() && s.claimed() == 256
+    }),
+    ("257 entries claimed", |s| {
+        s.caption.refusal == 8 && s.claimed() == 257
+    }),
+    ("a sheet of 10,252 bytes, accepted", |s| {
+        s.accepted() && s.case.sheet.len() == 10_252
+    }),
+];
+
 fn last_differs(code: &[u8], label: &[u8]) -> bool {
     match (code, label) {
         ([code @ .., a], [label @ .., b]) => code == label && a != b,
@@ -192,6 +220,7 @@ pub struct Tally {
     pub with_entry: [u64; 17],
     pub with_both: [u64; 17],
     kinds: [u64; KINDS.len()],
+    long_sheets: [u64; LONG_SHEETS.len()],
     /// By the number of the end.
     pub ends: [u64; ENDS.len()],
 }
@@ -215,6 +244,9 @@ impl Tally {
             self.with_both[number] += u64::from(list && entry);
         }
         for (count, (_, is)) in self.kinds.iter_mut().zip(KINDS) {
+            *count += u64::from(is(&seen));
+        }
+        for (count, (_, is)) in self.long_sheets.iter_mut().zip(LONG_SHEETS) {
             *count += u64::from(is(&seen));
         }
     }
@@ -243,7 +275,8 @@ impl Tally {
         ] {
             lines.push((format!("refusal 16, for {why}"), count));
         }
-        let kinds = KINDS.iter().zip(self.kinds);
+        let long_sheets = LONG_SHEETS.iter().zip(self.long_sheets);
+        let kinds = KINDS.iter().zip(self.kinds).chain(long_sheets);
         lines.extend(kinds.map(|((name, _), count)| (name.to_string(), count)));
         let ends = ENDS.iter().zip(&self.ends);
         lines.extend(ends.map(|(end, &count)| (format!("the input ends: {}", end.name), count)));

@@ -180,12 +180,12 @@ mod tests {
 
     /// What the program reads at most: one byte more than the longest list, and the longest sheet, have.
     const READ_LIST: usize = lists::LONGEST + 1;
-    const READ_SHEET: usize = 2573;
+    const READ_SHEET: usize = 10_253;
 
     /// That it reads no more changes no text. A list above 131,070 bytes is refused, since its last pair
-    /// ends at 65,535 + 65,535 at most; and so is its start of 131,071 bytes. A sheet above 2,572 bytes is
-    /// refused, since its labels end at 12 + 16 x 64 + 24 x 64 at most; its start of 2,573 bytes has all
-    /// that is checked before, 12 + 16 x 64 bytes, and ends elsewhere, too: the same number.
+    /// ends at 65,535 + 65,535 at most; and so is its start of 131,071 bytes. A sheet above 10,252 bytes is
+    /// refused, since its labels end at 12 + 16 x 256 + 24 x 256 at most; its start of 10,253 bytes has all
+    /// that is checked before, 12 + 16 x 256 bytes, and ends elsewhere, too: the same number.
     #[test]
     fn what_is_not_read_changes_no_text() {
         let start = |bytes: &[u8], most: usize| bytes[..bytes.len().min(most)].to_vec();
@@ -209,8 +209,8 @@ mod tests {
         }
         let mut refused = Vec::new();
         let mut rng = Rng::new(9);
-        for good in damage::small().into_iter().chain(damage::large()) {
-            for length in [2571, 2572, 2573, 2574, 12_000, 70_000] {
+        for good in [damage::small(), damage::large(), damage::longer()].concat() {
+            for length in [2572, 2573, 10_251, 10_252, 10_253, 10_254, 12_000, 70_000] {
                 for _ in 0..20 {
                     let mut sheet = damage::random_fault(&mut rng, &good).applied(&good);
                     sheet.resize(length, 0);

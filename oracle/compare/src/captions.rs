@@ -9,6 +9,9 @@ use std::io::{self, Read, Write as _};
 
 const PROGRAM: &str = "caption_cases";
 
+/// Of the random sheets, one in so many has more than 64 entries.
+const ONE_LONG_SHEET_IN: u32 = 32;
+
 /// Bytes in one run of the program, about.
 const BATCH_BYTES: usize = 2_000_000;
 
@@ -91,7 +94,10 @@ pub fn compare(options: &Options) -> Result<(), String> {
     caption_cases::fixed_by(&mut |case| run.push(case));
     let mut rng = Rng::new(options.seed);
     while run.tally.cases < options.cases && run.failed.is_none() {
-        run.push(caption_cases::random(&mut rng));
+        run.push(match rng.below(ONE_LONG_SHEET_IN) {
+            0 => caption_cases::random_long(&mut rng),
+            _ => caption_cases::random(&mut rng),
+        });
     }
     run.flush();
     while run.batches < ENDS.len() && run.failed.is_none() {

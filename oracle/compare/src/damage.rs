@@ -123,6 +123,43 @@ pub fn large() -> Vec<Vec<u8>> {
     sheets.iter().map(reader::write).collect()
 }
 
+/// Sheets of 65, 255 and 256 entries with the longest labels and with none, the longest of all among them; of
+/// 160 with none, which is as long as the longest was before; and of 256 with labels of each length, each entry
+/// placed at the label of another.
+pub fn longer() -> Vec<Vec<u8>> {
+    let mut rng = Rng::new(256);
+    let mut sheets = Vec::new();
+    for (n, length) in [
+        (65, 24),
+        (65, 0),
+        (160, 0),
+        (255, 24),
+        (255, 0),
+        (256, 24),
+        (256, 0),
+    ] {
+        let entries = (0..n).map(|_| random_entry(&mut rng, n, Some(length)));
+        sheets.push(described(Mode::Forever, 0x3f80_0000, entries.collect()));
+    }
+    let entries = (0..256_usize).map(|k| {
+        let label = vec![b'a' + (k / 25) as u8; k % 25];
+        entry(At::Label(255 - k), &label, 0x3f80_0000)
+    });
+    sheets.push(described(Mode::Once, 0x3f80_0000, entries.collect()));
+    sheets.iter().map(reader::write).collect()
+}
+
+/// In turn, as good ones are, but of too many entries: a byte or 64 entries more, and a multiple of 256.
+pub fn too_many() -> Vec<Vec<u8>> {
+    let of = |n| {
+        let entries = vec![entry(At::Start, b"", 0x3f80_0000); n];
+        reader::write(&described(Mode::Once, 0x3f80_0000, entries))
+    };
+    [257, 258, 319, 320, 321, 511, 512, 513, 640]
+        .map(of)
+        .to_vec()
+}
+
 fn random_bits(rng: &mut Rng) -> u32 {
     match rng.below(3) {
         0 => rng.bits(),
@@ -146,7 +183,7 @@ fn random_entry(rng: &mut Rng, n: u32, length: Option<u32>) -> Entry {
         0 => At::Absolute(random_bits(rng)),
         1 => At::Start,
         2 => At::End,
-        3 => At::Label(rng.below(n) as u8),
+        3 => At::Label(rng.below(n) as usize),
         _ => At::Offset(random_bits(rng)),
     };
     Entry {
@@ -163,6 +200,33 @@ pub fn random(rng: &mut Rng) -> Vec<u8> {
         1 => rng.below(65),
         _ => rng.below(6),
     };
+    random_of(rng, n, |_| None)
+}
+
+/// A good sheet of more than 64 entries.
+pub fn random_long(rng: &mut Rng) -> Vec<u8> {
+    let n = long_count(rng);
+    random_of(rng, n, |_| None)
+}
+
+/// One as long as the longest was before, 2,572 bytes, or by a byte longer, or as long as the longest is.
+pub fn random_longest(rng: &mut Rng) -> Vec<u8> {
+    let (n, first, others) = rng.pick(&[(160, 0, 0), (160, 1, 0), (256, 24, 24)]);
+    random_of(rng, n, |k| Some(if k == 0 { first } else { others }))
+}
+
+/// More than 64, mostly few more; often as many as can be.
+pub fn long_count(rng: &mut Rng) -> u32 {
+    match rng.below(16) {
+        0 => rng.pick(&[255, 256]),
+        1 => 65 + rng.below(192),
+        2 | 3 => 65,
+        _ => 66 + rng.below(35),
+    }
+}
+
+/// Of so many entries, and with labels of these lengths.
+fn random_of(rng: &mut Rng, n: u32, length: impl Fn(u32) -> Option<u32>) -> Vec<u8> {
     let mode = match rng.below(5) {
         0 => Mode::Once,
         1 => Mode::Times(random_number(rng)),
@@ -171,11 +235,14 @@ pub fn random(rng: &mut Rng) -> Vec<u8> {
         _ => Mode::PingPongTimes(random_number(rng)),
     };
     let scale = random_bits(rng);
-    let entries = (0..n).map(|_| random_entry(rng, n, None)).collect();
+    let entries = (0..n).map(|k| random_entry(rng, n, length(k))).collect();
     reader::write(&described(mode, scale, entries))
 }
 
 // Faults
+
+/// Where a sheet has its count.
+const COUNT_AT: [usize; 2] = [1, 3];
 
 /// A change of a sheet. It may leave a good one.
 #[derive(Clone, PartialEq, Debug)]
@@ -184,6 +251,8 @@ pub enum Fault {
     Flip(usize),
     /// Of the bytes at a place.
     Set(usize, Vec<u8>),
+    /// Of the count: its low byte and its high byte.
+    Count(u16),
     /// All bytes from a place on are gone.
     Cut(usize),
     /// Bytes come after the last.
@@ -203,6 +272,11 @@ impl Fault {
                     *place = *byte;
                 }
             }
+            Fault::Count(count) => {
+                for (at, byte) in COUNT_AT.into_iter().zip(count.to_le_bytes()) {
+                    Fault::Set(at, vec![byte]).apply(sheet);
+                }
+            }
             Fault::Cut(at) => sheet.truncate(*at),
             Fault::Append(bytes) => sheet.extend(bytes),
         }
@@ -218,6 +292,12 @@ impl Fault {
     pub fn beside(&self, other: &Fault) -> bool {
         match (self, other) {
             (Fault::Set(a, x), Fault::Set(b, y)) => a + x.len() <= *b || b + y.len() <= *a,
+            (Fault::Set(at, bytes), Fault::Count(_)) | (Fault::Count(_), Fault::Set(at, bytes)) => {
+                !COUNT_AT
+                    .iter()
+                    .any(|byte| (*at..at + bytes.len()).contains(byte))
+            }
+            (Fault::Count(_), Fault::Count(_)) => false,
             (Fault::Cut(_), Fault::Cut(_)) => false,
             _ => self != other,
         }
@@ -232,10 +312,10 @@ pub fn cuts(sheet: &[u8]) -> Vec<Fault> {
     (0..sheet.len()).map(Fault::Cut).collect()
 }
 
-/// One to a hundred bytes, and as many as the program takes.
+/// One to a hundred bytes, those that the longest sheet has or had, and as many as the program takes.
 pub fn appended(sheet: &[u8]) -> Vec<Fault> {
     let up_to = |n: usize| n - sheet.len();
-    let longest = [256, 2572, 2573, 4095, 4096];
+    let longest = [256, 2572, 2573, 4096, 10_252, 10_253, 11_999, 12_000];
     let longest = longest.into_iter().filter(|&n| n > sheet.len()).map(up_to);
     (1..=100)
         .chain(longest)
@@ -246,7 +326,7 @@ pub fn appended(sheet: &[u8]) -> Vec<Fault> {
 /// Each field set to other numbers, those on both sides of each limit among them, and the length
 /// beside those that it is checked for.
 pub fn fields(sheet: &[u8]) -> Vec<Fault> {
-    let n = usize::from(sheet[1]);
+    let n = reader::claimed(sheet);
     let mut faults = Vec::new();
     let mut set = |at: usize, value: u32, size: usize| {
         let bytes = &value.to_le_bytes()[..size];
@@ -272,7 +352,7 @@ pub fn fields(sheet: &[u8]) -> Vec<Fault> {
     for value in [0, 1, 0x8000_0000] {
         set(4, value, 4);
     }
-    for k in (0..n).filter(|&k| k < 3 || k == 31 || k + 2 >= n) {
+    for k in (0..n).filter(|&k| k < 3 || [31, 63, 64].contains(&k) || k + 2 >= n) {
         let pair = 12 + 4 * k;
         let [offset, length] = [pair, pair + 2].map(|at| {
             let bytes = [sheet[at], sheet[at + 1]];
@@ -302,6 +382,39 @@ pub fn fields(sheet: &[u8]) -> Vec<Fault> {
     faults.extend(ends.map(Fault::Cut));
     faults.push(Fault::Append(vec![0]));
     faults
+}
+
+/// Other counts: on both sides of 64 and 256, and where one of the two bytes alone is right.
+pub fn counts(sheet: &[u8]) -> Vec<Fault> {
+    let n = reader::claimed(sheet) as u16;
+    let limits = [0, 1, 63, 64, 65, 66, 254, 255, 256, 257, 258, 320, 321];
+    let around = [n.wrapping_sub(1), n + 1, n ^ 256, n + 256, n + 512];
+    let mut counts = [&limits[..], &around].concat();
+    counts.sort_unstable();
+    counts.dedup();
+    counts.retain(|&count| count != n);
+    counts.into_iter().map(Fault::Count).collect()
+}
+
+/// Every high byte of the count, with low ones on both sides of the limits and with its own.
+pub fn high_bytes(sheet: &[u8]) -> Vec<Fault> {
+    let mut lows = vec![sheet[1], 0, 1, 2, 63, 64, 65, 254, 255];
+    lows.sort_unstable();
+    lows.dedup();
+    let counts = (0..=255).flat_map(|high| lows.iter().map(move |&low| [low, high]));
+    let faults = counts.map(|count| Fault::Count(u16::from_le_bytes(count)));
+    faults
+        .filter(|fault| fault.applied(sheet) != sheet)
+        .collect()
+}
+
+/// Any count, mostly one beside a limit.
+pub fn random_count(rng: &mut Rng) -> Fault {
+    Fault::Count(match rng.below(4) {
+        0 => rng.bits() as u16,
+        1 => rng.below(300) as u16,
+        _ => rng.pick(&[63, 64, 65, 255, 256, 257, 258, 320, 512]),
+    })
 }
 
 /// A fault of any kind.

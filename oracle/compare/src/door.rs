@@ -3,18 +3,21 @@
 //! come in pieces.
 
 use crate::call::{Call, Lent, Update};
-use crate::checked::Checked;
+use crate::checked::{Answer, Checked};
 use crate::damage;
 use crate::pipe;
 use crate::port::{Program, root};
 use crate::reader::{self, At, Described, Entry, Mode};
 use crate::rng::Rng;
+use crate::sheets;
+use crate::twins::Twins;
 use animato_core::{Playable, Update as Leaf};
 use animato_timeline::{Timeline, TimelineState};
 use std::any::Any;
 use std::fmt::Write as _;
 use std::fs::{self, File};
 use std::io::{self, Read, Write as _};
+use std::mem;
 use std::process::{ChildStdin, Stdio};
 use std::sync::{Arc, Mutex};
 use std::thread;
@@ -22,8 +25,8 @@ use std::time::{Duration, Instant};
 
 pub const PROGRAM: &str = "door_log";
 
-/// "a length above 2,572".
-const MOST_SHEET: usize = 2572;
+/// "a length above 2,572", and S-2: "The longest sheet is 10,252 bytes, and the log's limit follows."
+const MOST_SHEET: usize = 10_252;
 /// "14: unknown call byte, or 1 to 4 bytes left over."
 const BAD_CALL: u8 = 14;
 /// "input that ends before the sheet does, or a length above 2,572 (7 for these two)".
@@ -41,6 +44,12 @@ struct Tally {
     lines: u64,
     /// Sheets, by their number.
     sheets: [u64; 16],
+    /// Accepted ones of more than 64 entries.
+    longer: u64,
+    /// Sheets of `LENGTHS` bytes, by their number.
+    lengths: [[u64; 16]; LENGTHS.len()],
+    /// Sheets that are too long, and would have another number if they were not.
+    hidden: u64,
     /// Calls, by their byte; 8 is every other byte, 9 bytes left over.
     calls: [u64; 10],
     /// Calls, by their refusal.
@@ -48,8 +57,17 @@ struct Tally {
     /// States after calls: Idle, Playing, Paused, Completed.
     states: [u64; 4],
     listed: u64,
+    /// Numbers listed that are above 63, and 255.
+    high: u64,
+    last: u64,
     nans: u64,
 }
+
+/// The limits of before and of now, and one more.
+const LENGTHS: [usize; 4] = [2572, 2573, 10_252, 10_253];
+
+/// Of the accepted sheets, one in so many has more than 64 entries, at least.
+const ONE_LONGER_IN: u64 = 10;
 
 /// "Bits are eight lower-case hex digits, NaN as 7fc00000".
 fn bits(x: f32) -> u32 {
@@ -69,13 +87,17 @@ fn letter(state: &TimelineState) -> (usize, char) {
 /// The sheet's description, and the calls; or the number that refuses the sheet. "Standard input: u16
 /// sheet length, the sheet, then calls of 5 bytes".
 fn parts(input: &[u8]) -> Result<(Described, &[u8]), u8> {
-    let (length, rest) = input.split_first_chunk().ok_or(CUT)?;
-    let length = usize::from(u16::from_le_bytes(*length));
-    if length > MOST_SHEET {
+    let (sheet, script) = sheet_of(input).ok_or(CUT)?;
+    if sheet.len() > MOST_SHEET {
         return Err(CUT);
     }
-    let (sheet, script) = rest.split_at_checked(length).ok_or(CUT)?;
     Ok((reader::read(sheet)?, script))
+}
+
+/// The sheet and what follows it, where the input does not end before it does.
+fn sheet_of(input: &[u8]) -> Option<(&[u8], &[u8])> {
+    let (length, rest) = input.split_first_chunk()?;
+    rest.split_at_checked(usize::from(u16::from_le_bytes(*length)))
 }
 
 /// "0 play, 1 pause, 2 resume, 3 reset, 4 update, 5 seek, 6 seek_abs, 7 scale"; "Leaves always reply 1;
@@ -86,9 +108,9 @@ fn call(bytes: &[u8]) -> Option<Call> {
     };
     let x = f32::from_le_bytes([a, b, c, d]);
     let lent = Lent {
-        kinds: 64,
-        amounts: 64,
-        places: 64,
+        kinds: 256,
+        amounts: 256,
+        places: 256,
     };
     Some(match byte {
         0 => Call::Play(lent),
@@ -99,7 +121,7 @@ fn call(bytes: &[u8]) -> Option<Call> {
             dt: x,
             lent,
             list: 256,
-            replies: vec![1; 64],
+            replies: vec![1; 256],
         }),
         5 => Call::Seek(x, lent),
         6 => Call::SeekAbs(x, lent),
@@ -108,28 +130,66 @@ fn call(bytes: &[u8]) -> Option<Call> {
     })
 }
 
+/// The panel of a sheet, as `Checked` has it; but its entries are added all at once. Looked at after each of
+/// them, as `Checked` does, it would take a time that grows with the square of their number.
+struct Panel<'a> {
+    described: &'a Described,
+    checked: Checked,
+    /// The accepted calls on the panel of the sheet.
+    accepted: Vec<Call>,
+}
+
+impl<'a> Panel<'a> {
+    fn new(described: &'a Described) -> Self {
+        let mut checked = Checked::new();
+        checked.twins = Twins::from_timeline(sheets::built(described, Still), Vec::new());
+        checked.twins.follow();
+        Panel {
+            described,
+            checked,
+            accepted: Vec::new(),
+        }
+    }
+
+    fn twins(&self) -> &Twins {
+        &self.checked.twins
+    }
+
+    fn call(&mut self, call: Call) -> Answer {
+        let answer = self.checked.call(&call);
+        match answer.refusal {
+            0 => self.accepted.push(call),
+            // not tried
+            _ if answer.long_walk => {}
+            // taken back, on a panel with no sheet
+            _ => {
+                let accepted = mem::take(&mut self.accepted);
+                *self = Panel::new(self.described);
+                accepted.into_iter().for_each(|call| {
+                    self.call(call);
+                });
+            }
+        }
+        answer
+    }
+}
+
 fn log(input: &[u8], tally: &mut Tally) -> String {
     let mut out = String::new();
-    tally.inputs += 1;
-    let (described, script) = match parts(input) {
+    let read = parts(input);
+    tally.add_sheet(input, read.as_ref().err().copied().unwrap_or(0));
+    let (described, script) = match read {
         Ok(parts) => parts,
-        Err(number) => {
-            tally.sheets[usize::from(number)] += 1;
-            return format!("sheet {number}\n");
-        }
+        Err(number) => return format!("sheet {number}\n"),
     };
-    tally.sheets[0] += 1;
-    let mut panel = Checked::new();
-    for call in described.calls() {
-        assert_eq!(panel.call(&call).refusal, 0);
-    }
-    let (base, run) = (panel.twins.base(), panel.twins.run());
-    let count = panel.twins.entries().len();
+    let mut panel = Panel::new(&described);
+    let (base, run) = (panel.twins().base(), panel.twins().run());
+    let count = panel.twins().entries().len();
     writeln!(out, "sheet 0 {count} {:08x} {:08x}", bits(base), bits(run)).unwrap();
     for (index, bytes) in script.chunks(5).enumerate() {
         let (refusal, listed) = match call(bytes) {
             Some(call) => {
-                let answer = panel.call(&call);
+                let answer = panel.call(call);
                 let update = answer.update;
                 let listed =
                     update.map_or(Vec::new(), |update| update.list[..update.listed].into());
@@ -137,8 +197,8 @@ fn log(input: &[u8], tally: &mut Tally) -> String {
             }
             None => (BAD_CALL, Vec::new()),
         };
-        let (state, letter) = letter(&panel.twins.state());
-        let elapsed = panel.twins.elapsed();
+        let (state, letter) = letter(&panel.twins().state());
+        let elapsed = panel.twins().elapsed();
         write!(
             out,
             "{} {letter} {:08x} {refusal}",
@@ -155,10 +215,29 @@ fn log(input: &[u8], tally: &mut Tally) -> String {
         tally.refusals[usize::from(refusal)] += 1;
         tally.states[state] += 1;
         tally.listed += listed.len() as u64;
+        tally.high += listed.iter().filter(|&&number| number > 63).count() as u64;
+        tally.last += listed.iter().filter(|&&number| number == 255).count() as u64;
         tally.nans += u64::from(elapsed.is_nan());
     }
     tally.lines += 1 + script.len().div_ceil(5) as u64;
     out
+}
+
+impl Tally {
+    fn add_sheet(&mut self, input: &[u8], number: u8) {
+        self.inputs += 1;
+        let at = usize::from(number);
+        self.sheets[at] += 1;
+        let Some((sheet, _)) = sheet_of(input) else {
+            return;
+        };
+        self.longer += u64::from(number == 0 && reader::claimed(sheet) > 64);
+        for (length, numbers) in LENGTHS.iter().zip(&mut self.lengths) {
+            numbers[at] += u64::from(sheet.len() == *length);
+        }
+        let own = reader::read(sheet).err();
+        self.hidden += u64::from(sheet.len() > MOST_SHEET && own != Some(CUT));
+    }
 }
 
 /// "zeros of either sign agree".
@@ -188,13 +267,18 @@ fn eighths(rng: &mut Rng, most: u32) -> u32 {
     (rng.below(8 * most + 1) as f32 * 0.125).to_bits()
 }
 
-/// A sheet of everyday numbers.
-fn everyday(rng: &mut Rng) -> Vec<u8> {
-    let n = match rng.below(40) {
+/// How many entries: mostly few, and one in seven times more than 64.
+fn count(rng: &mut Rng) -> u32 {
+    match rng.below(42) {
         0 => 64,
         1 => 1 + rng.below(63),
+        2..=7 => damage::long_count(rng),
         _ => rng.below(7),
-    };
+    }
+}
+
+/// A sheet of everyday numbers.
+fn everyday(rng: &mut Rng, n: u32) -> Vec<u8> {
     let number = rng.pick(&[0, 1, 2, 2, 3, 3, 4, 5, 9, 300, 16_777_217, u32::MAX]);
     let mode = match rng.below(6) {
         0 | 1 => Mode::Once,
@@ -208,7 +292,7 @@ fn everyday(rng: &mut Rng) -> Vec<u8> {
             0 => At::Absolute(eighths(rng, 4)),
             1 | 2 => At::Start,
             3 | 4 => At::End,
-            5 => At::Label(rng.below(n) as u8),
+            5 => At::Label(rng.below(n) as usize),
             6 => At::Offset(eighths(rng, 2)),
             _ => At::Offset(eighths(rng, 2) | 0x8000_0000),
         };
@@ -266,13 +350,8 @@ fn operand(rng: &mut Rng, byte: u8, base: f32) -> u32 {
 }
 
 fn script(rng: &mut Rng, sheet: &[u8], calls: u32) -> Vec<u8> {
-    let base = reader::read(sheet).map_or(1.0, |described| {
-        let mut panel = Checked::new();
-        for call in described.calls() {
-            panel.call(&call);
-        }
-        panel.twins.base()
-    });
+    let base =
+        reader::read(sheet).map_or(1.0, |described| sheets::built(&described, Still).duration());
     let mut script = Vec::new();
     for index in 0..calls {
         let byte = match rng.below(64) {
@@ -298,14 +377,22 @@ fn script(rng: &mut Rng, sheet: &[u8], calls: u32) -> Vec<u8> {
 }
 
 pub fn input(rng: &mut Rng) -> Vec<u8> {
-    let mut sheet = match rng.below(20) {
-        0 => damage::noise(rng),
-        1..=4 => damage::random(rng),
-        _ => everyday(rng),
+    let mut sheet = match rng.below(80) {
+        0..=3 => damage::noise(rng),
+        4..=17 => damage::random(rng),
+        18 => damage::random_long(rng),
+        19 | 20 => beside_a_limit(rng),
+        _ => {
+            let n = count(rng);
+            everyday(rng, n)
+        }
     };
     if rng.below(8) == 0 {
         for _ in 0..1 + rng.below(2) {
-            sheet = damage::random_fault(rng, &sheet).applied(&sheet);
+            sheet = match rng.below(8) {
+                0 => damage::random_count(rng).applied(&sheet),
+                _ => damage::random_fault(rng, &sheet).applied(&sheet),
+            };
         }
     }
     let mut length = sheet.len() as u16;
@@ -319,6 +406,8 @@ pub fn input(rng: &mut Rng) -> Vec<u8> {
             length + 9,
             2572,
             2573,
+            10_252,
+            10_253,
             65_535,
         ]);
     }
@@ -331,9 +420,26 @@ pub fn input(rng: &mut Rng) -> Vec<u8> {
     input
 }
 
+/// A sheet as long as the longest is, or was, good or with another fault; or a byte longer than that, so that 7
+/// may hide its number.
+fn beside_a_limit(rng: &mut Rng) -> Vec<u8> {
+    let mut sheet = damage::random_longest(rng);
+    match rng.below(6) {
+        0 => damage::Fault::Set(0, vec![2]).apply(&mut sheet),
+        1 => damage::random_count(rng).apply(&mut sheet),
+        2 => damage::random_fault(rng, &sheet).apply(&mut sheet),
+        _ => {}
+    }
+    if rng.below(3) == 0 {
+        sheet.push(0);
+    }
+    sheet
+}
+
 /// A good sheet, and so many calls that the input is a long one.
 fn long(rng: &mut Rng) -> Vec<u8> {
-    let sheet = everyday(rng);
+    let n = rng.below(7);
+    let sheet = everyday(rng, n);
     let calls = 41_000 + rng.below(4_000);
     let script = script(rng, &sheet, calls);
     [&(sheet.len() as u16).to_le_bytes()[..], &sheet, &script].concat()
@@ -478,19 +584,23 @@ pub fn compare(options: &Options) -> Result<(), String> {
     let jobs = thread::available_parallelism().map_or(1, usize::from);
     let mut rng = Rng::new(options.seed);
     let mut tally = Tally::default();
-    while tally.inputs < options.inputs {
+    let mut next_batch = || -> Vec<Case> {
         let numbers = tally.inputs..options.inputs.min(tally.inputs + BATCH);
-        let batch: Vec<Case> = numbers
-            .map(|number| Case::new(number, &mut rng, &mut tally))
-            .collect();
+        let case = |number| Case::new(number, &mut rng, &mut tally);
+        numbers.map(case).collect()
+    };
+    let mut batch = next_batch();
+    while !batch.is_empty() {
         let each = batch.len().div_ceil(jobs);
-        thread::scope(|scope| {
+        // the next batch is made beside the runs of this one
+        batch = thread::scope(|scope| {
             let runs: Vec<_> = batch
                 .chunks(each)
                 .map(|part| scope.spawn(|| part.iter().try_for_each(|case| case.same(&program))))
                 .collect();
+            let next = next_batch();
             let joined = runs.into_iter().map(|run| run.join().expect("a run"));
-            joined.collect::<Result<(), String>>()
+            joined.collect::<Result<(), String>>().map(|()| next)
         })?;
     }
     println!("{PROGRAM}: seed {}, no differences", options.seed);
@@ -505,12 +615,19 @@ impl Tally {
             self.inputs, self.long, self.pieces, self.lines
         );
         println!("  sheets by number, 0 to 15: {:?}", self.sheets);
+        println!(
+            "  accepted sheets of more than 64 entries: {}; too long ones whose own number is another: {}",
+            self.longer, self.hidden
+        );
+        for (length, numbers) in LENGTHS.iter().zip(&self.lengths) {
+            println!("  sheets of {length} bytes by number: {numbers:?}");
+        }
         println!("  calls by byte, others, left over: {:?}", self.calls);
         println!("  calls by refusal, 0 to 15: {:?}", self.refusals);
         println!("  states I P H C: {:?}", self.states);
         println!(
-            "  entries listed: {}, NaN elapsed: {}",
-            self.listed, self.nans
+            "  entries listed: {}, of them above 63: {}, 255: {}; NaN elapsed: {}",
+            self.listed, self.high, self.last, self.nans
         );
     }
 
@@ -520,6 +637,11 @@ impl Tally {
             (self.inputs, least, "inputs"),
             (self.long, least / ONE_LONG_IN, "inputs above 200 KB"),
             (self.pieces, least / ONE_IN_PIECES_IN, "inputs in pieces"),
+            (
+                self.longer,
+                self.sheets[0].div_ceil(ONE_LONGER_IN),
+                "accepted sheets of more than 64 entries",
+            ),
         ] {
             if count < least {
                 return Err(format!("{PROGRAM}: {count} {what}, fewer than {least}"));
@@ -535,7 +657,16 @@ impl Tally {
                 self.refusals[5],
                 self.refusals[14],
                 self.nans,
+                self.high,
+                self.last,
+                self.hidden,
             ],
+            // at each limit a good sheet and a refused one; above, 7
+            &self.lengths[..3]
+                .iter()
+                .flat_map(|numbers| [numbers[0], numbers[6]])
+                .collect::<Vec<_>>(),
+            &self.lengths[3][7..=7],
         ];
         if seen.concat().iter().any(|&count| count < least / 5000) {
             return Err(format!("{PROGRAM}: too few of something"));
@@ -595,13 +726,10 @@ impl Playable for Still {
 /// The log of a good input by one plain timeline of the Rust, with nothing around it: no refusals.
 fn plain_log(input: &[u8]) -> Vec<u8> {
     let (described, script) = parts(input).expect("a good sheet");
-    let mut panel = Checked::new();
-    described.calls().iter().for_each(|call| {
-        panel.call(call);
-    });
+    let panel = Panel::new(&described);
     let listed: Arc<Mutex<Vec<usize>>> = Arc::default();
-    let mut timeline = Timeline::new().looping(panel.twins.mode());
-    for (index, entry) in panel.twins.entries().iter().enumerate() {
+    let mut timeline = Timeline::new().looping(panel.twins().mode());
+    for (index, entry) in panel.twins().entries().iter().enumerate() {
         let at = animato_timeline::At::Absolute(entry.start);
         let list = Arc::clone(&listed);
         timeline = timeline
@@ -610,7 +738,7 @@ fn plain_log(input: &[u8]) -> Vec<u8> {
     }
     let (base, run) = (timeline.duration(), Playable::duration(&timeline));
     let mut out = Vec::new();
-    let count = panel.twins.entries().len();
+    let count = panel.twins().entries().len();
     writeln!(out, "sheet 0 {count} {:08x} {:08x}", bits(base), bits(run)).unwrap();
     for (index, call) in script.chunks_exact(5).enumerate() {
         let x = f32::from_le_bytes([call[1], call[2], call[3], call[4]]);
@@ -680,7 +808,7 @@ pub fn bench(calls: u32, rounds: u64) -> Result<(), String> {
         ("Forever", Mode::Forever),
         ("PingPong", Mode::PingPong),
     ] {
-        for entries in [8, 64] {
+        for entries in [8, 64, 256] {
             let input = long_input(&mut Rng::new(1), mode, entries, calls);
             fs::write(&file, &input).map_err(|e| e.to_string())?;
             let (mut rust, mut port) = (f64::MAX, f64::MAX);
@@ -715,24 +843,36 @@ pub fn bench(calls: u32, rounds: u64) -> Result<(), String> {
 mod tests {
     use super::*;
 
+    fn entry(at: At, label: &[u8], duration: f32) -> Entry {
+        Entry {
+            at,
+            label: label.to_vec(),
+            duration: duration.to_bits(),
+        }
+    }
+
+    fn sheet(mode: Mode, entries: Vec<Entry>) -> Vec<u8> {
+        reader::write(&Described {
+            mode,
+            scale: 0x3f80_0000,
+            entries,
+        })
+    }
+
+    fn input(sheet: &[u8], calls: &[u8]) -> Vec<u8> {
+        [&(sheet.len() as u16).to_le_bytes()[..], sheet, calls].concat()
+    }
+
+    const PLAY: [u8; 5] = [0; 5];
+    const UPDATE_1: [u8; 5] = [4, 0, 0, 0x80, 0x3f];
+    const UPDATE_2: [u8; 5] = [4, 0, 0, 0, 0x40];
+
     /// "Input: Once, scale 1.0, `a` of 1.0 at Start, `b` of 0.5 at End; play, update 1.0, update 1.0".
     #[test]
     fn the_paper_s_example() {
-        let entry = |at, label: &[u8], duration| Entry {
-            at,
-            label: label.to_vec(),
-            duration,
-        };
-        let sheet = reader::write(&Described {
-            mode: Mode::Once,
-            scale: 0x3f80_0000,
-            entries: vec![
-                entry(At::Start, b"a", 0x3f80_0000),
-                entry(At::End, b"b", 0x3f00_0000),
-            ],
-        });
-        let calls = [0, 0, 0, 0, 0, 4, 0, 0, 0x80, 0x3f, 4, 0, 0, 0x80, 0x3f];
-        let input = [&(sheet.len() as u16).to_le_bytes()[..], &sheet, &calls].concat();
+        let entries = vec![entry(At::Start, b"a", 1.0), entry(At::End, b"b", 0.5)];
+        let sheet = sheet(Mode::Once, entries);
+        let input = input(&sheet, &[PLAY, UPDATE_1, UPDATE_1].concat());
         let expected =
             "sheet 0 2 3fc00000 3fc00000\n1 P 00000000 0\n2 P 3f800000 0 0\n3 C 3fc00000 0 1\n";
         assert_eq!(rust_log(&input), expected);
@@ -746,5 +886,113 @@ mod tests {
         let expected =
             "sheet 0 2 3fc00000 3fc00000\n1 I 00000000 14\n2 I 00000000 0\n3 I 00000000 14\n";
         assert_eq!(rust_log(&odd), expected);
+    }
+
+    // S-2: up to 256 entries
+
+    /// By hand: 256 bars of 1 s at the start, but the last of 2 s, in Once.
+    #[test]
+    fn entry_255_completes() {
+        let mut entries = vec![entry(At::Start, &[b'l'; 24], 1.0); 255];
+        entries.push(entry(At::Start, &[b'l'; 24], 2.0));
+        let sheet = sheet(Mode::Once, entries);
+        assert_eq!(sheet.len(), 10_252);
+        let input = input(&sheet, &[PLAY, UPDATE_1, UPDATE_1].concat());
+        let first: String = (0..255).map(|number| format!(" {number}")).collect();
+        let expected = format!(
+            "sheet 0 256 40000000 40000000\n1 P 00000000 0\n2 P 3f800000 0{first}\n3 C 40000000 0 255\n"
+        );
+        assert_eq!(rust_log(&input), expected);
+        assert_eq!(plain_log(&input), expected.as_bytes());
+    }
+
+    /// By hand: "the list holds 256", one cycle of 256 entries, and two of 129 are 258.
+    #[test]
+    fn one_cycle_of_256_entries() {
+        let all = |n: usize| {
+            (0..n)
+                .map(|number| format!(" {number}"))
+                .collect::<String>()
+        };
+        let calls = [PLAY, UPDATE_1, UPDATE_2, UPDATE_1].concat();
+        let of = |n| sheet(Mode::Forever, vec![entry(At::Start, b"", 1.0); n]);
+        let expected = |n: usize| {
+            let all = all(n);
+            format!(
+                "sheet 0 {n} 3f800000 7f800000\n1 P 00000000 0\n2 P 3f800000 0{all}\n\
+                 3 P 3f800000 5\n4 P 40000000 0{all}\n"
+            )
+        };
+        assert_eq!(rust_log(&input(&of(256), &calls)), expected(256));
+        assert_eq!(rust_log(&input(&of(129), &calls)), expected(129));
+        let all = all(128);
+        let twice = format!(
+            "sheet 0 128 3f800000 7f800000\n1 P 00000000 0\n2 P 3f800000 0{all}\n\
+             3 P 40400000 0{all}{all}\n4 P 40800000 0{all}\n"
+        );
+        assert_eq!(rust_log(&input(&of(128), &calls)), twice);
+    }
+
+    /// "The longest sheet is 10,252 bytes, and the log's limit follows": above it the sheet's own number is not
+    /// asked for.
+    #[test]
+    fn the_limit_of_the_length() {
+        let longest = sheet(Mode::Once, vec![entry(At::Start, &[b'l'; 24], 0.0); 256]);
+        let of_version_2 = |sheet: &[u8]| [&[2], &sheet[1..]].concat();
+        let first_line = |sheet: &[u8]| {
+            let log = rust_log(&input(sheet, &[]));
+            log.lines().next().map(String::from)
+        };
+        let line = |line: &str| Some(line.to_string());
+        assert_eq!(first_line(&longest), line("sheet 0 256 00000000 00000000"));
+        assert_eq!(first_line(&of_version_2(&longest)), line("sheet 6"));
+        let more = [&longest[..], b"l"].concat();
+        assert_eq!(more.len(), 10_253);
+        assert_eq!(first_line(&more), line("sheet 7"));
+        assert_eq!(first_line(&of_version_2(&more)), line("sheet 7"));
+        // the limit of before: 160 empty labels, and one of them longer by a byte
+        let mut entries = vec![entry(At::Start, b"", 0.0); 160];
+        let of_160 = sheet(Mode::Once, entries.clone());
+        entries[159].label.push(b'l');
+        let more = sheet(Mode::Once, entries);
+        assert_eq!((of_160.len(), more.len()), (2572, 2573));
+        for sheet in [of_160, more] {
+            assert_eq!(first_line(&sheet), line("sheet 0 160 00000000 00000000"));
+            assert_eq!(first_line(&of_version_2(&sheet)), line("sheet 6"));
+        }
+    }
+
+    /// The panel that is built at once is the one that the calls make, before a refused call and after it.
+    #[test]
+    fn built_at_once() {
+        let mut rng = Rng::new(11);
+        for _ in 0..300 {
+            let n = count(&mut rng);
+            let described = reader::read(&everyday(&mut rng, n)).expect("a good sheet");
+            let mut one = Checked::new();
+            described.calls().iter().for_each(|call| {
+                one.call(call);
+            });
+            let mut other = Panel::new(&described);
+            assert_eq!(one.twins.entries(), other.twins().entries());
+            for bytes in script(&mut rng, &reader::write(&described), 30).chunks_exact(5) {
+                let Some(call) = call(bytes) else { continue };
+                let listed = |answer: Answer| {
+                    let update = answer.update;
+                    let listed =
+                        update.map(|update| (update.running, update.completed, update.list));
+                    (answer.refusal, listed)
+                };
+                assert_eq!(listed(one.call(&call)), listed(other.call(call)));
+                let seen = |twins: &Twins| {
+                    (
+                        twins.state(),
+                        twins.elapsed().to_bits(),
+                        twins.run().to_bits(),
+                    )
+                };
+                assert_eq!(seen(&one.twins), seen(other.twins()));
+            }
+        }
     }
 }

@@ -272,10 +272,10 @@ pub fn sheets() -> Vec<Vec<u8>> {
     ]
 }
 
-/// 64 entries: labels of each length, the empty one and 24 bytes among them.
-pub fn sheet_of_64() -> Vec<u8> {
-    let labels: Vec<Vec<u8>> = (0..64)
-        .map(|k| vec![b'a' + k / 25; k as usize % 25])
+/// So many entries: labels of each length, the empty one and 24 bytes among them.
+pub fn sheet_of(entries: usize) -> Vec<u8> {
+    let labels: Vec<Vec<u8>> = (0..entries)
+        .map(|k| vec![b'a' + (k / 25) as u8; k % 25])
         .collect();
     let labels: Vec<&[u8]> = labels.iter().map(Vec::as_slice).collect();
     sheet(&labels)
@@ -361,7 +361,7 @@ mod tests {
     #[test]
     fn good_lists_are_in_shape() {
         let mut rng = Rng::new(5);
-        let labels = labels(&sheet_of_64());
+        let labels = labels(&sheet_of(64));
         let random = (0..200).map(|_| random(&mut rng, &labels));
         for words in small().into_iter().chain(random) {
             let list = write(&words);

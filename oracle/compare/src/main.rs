@@ -29,6 +29,7 @@ mod scripts;
 #[cfg(test)]
 #[path = "../../sha256.rs"]
 mod sha256;
+mod sheet_tally;
 mod sheets;
 mod tally;
 mod trace;
@@ -49,6 +50,7 @@ const USAGE: &str = "usage:
   oracle traces [--seed N] [--scripts N] [--least-calls N] [--calls KINDS] [--port COMMAND]
   oracle trace-sample
   oracle sheets [--seed N] [--sheets N] [--least N] [--port COMMAND]
+  oracle sheet-answers
   oracle sheet-sample
   oracle doors [--seed N] [--inputs N] [--least N] [--port COMMAND]
   oracle outputs [--seed N] [--runs N] [--least N] [--launcher FILE] [--panel FILE]
@@ -114,6 +116,7 @@ fn run(words: &[&str]) -> Result<(), String> {
                 port: Port(options.get("--port").map(String::from)),
             })
         }
+        "sheet-answers" => Options::read(words, &[]).and_then(|_| sheets::write_answers()),
         "sheet-sample" => Options::read(words, &[]).and_then(|_| sheets::write_sample()),
         "doors" => {
             let options = Options::read(words, &["--seed", "--inputs", "--least", "--port"])?;

@@ -414,16 +414,16 @@ fn captions(folder: &Folder, rng: &mut Rng) -> io::Result<Tasks<Pair>> {
     })
 }
 
-/// 64 labels whose words have 1,000 bytes each, some of them written by their numbers; 64 equal labels whose
+/// 256 labels whose words have 200 bytes each, some of them written by their numbers; 64 equal labels whose
 /// words have 10,000 bytes; and the longest list, from which 64 empty labels have the longest words.
 fn long_captions() -> Vec<(Vec<u8>, Vec<u8>)> {
-    let labels: Vec<Vec<u8>> = (0..64).map(|k| format!("g{k}").into_bytes()).collect();
+    let labels: Vec<Vec<u8>> = (0..256).map(|k| format!("g{k}").into_bytes()).collect();
     let numbered = labels.iter().zip(0_usize..);
     let words: Words = numbered
         .map(|(label, k)| {
             (
                 label.clone(),
-                (0..1000).map(|at| (at * 7 + k) as u8).collect(),
+                (0..200).map(|at| (at * 7 + k) as u8).collect(),
             )
         })
         .collect();
@@ -645,11 +645,11 @@ fn longest(bench: &Bench, number: u64) -> Result<Ending, String> {
     whole(bench, &pair, number)
 }
 
-/// A list of 131,070 bytes, and a sheet of 2,572.
+/// A list of 131,070 bytes, and a sheet of 10,252.
 fn longest_pair() -> (Vec<u8>, Vec<u8>) {
     let words = vec![(vec![b'c'; 65_535 - 10], vec![b'w'; 65_535])];
     let label: &[u8] = &[b'c'; 24];
-    (lists::write(&words), lists::sheet(&[label; 64]))
+    (lists::write(&words), lists::sheet(&[label; 256]))
 }
 
 /// The list, the sheet or both come by a FIFO, in pieces, each after the one before it has been read.
@@ -898,7 +898,7 @@ mod tests {
     fn long_texts_of_captions() {
         for (list, sheet) in long_captions() {
             let text = caption_text::text(&list, &sheet);
-            assert!(text.starts_with("captions 0 64\n") && text.len() > 2 * PIPE);
+            assert!(text.starts_with("captions 0 ") && text.len() > 2 * PIPE);
             assert!(text.lines().skip(1).all(|line| line.contains(" L ")));
         }
     }
@@ -906,8 +906,8 @@ mod tests {
     #[test]
     fn the_longest_pair() {
         let (list, sheet) = longest_pair();
-        assert_eq!((list.len(), sheet.len()), (131_070, 2572));
+        assert_eq!((list.len(), sheet.len()), (131_070, 10_252));
         let text = caption_text::text(&list, &sheet);
-        assert!(text.starts_with("captions 0 64\n0 S 1036 24 ccc"));
+        assert!(text.starts_with("captions 0 256\n0 S 4108 24 ccc"));
     }
 }

@@ -1,4 +1,5 @@
-//! An independent reader of sheets, and a writer: from paper 01, "The sheet", sentence by sentence.
+//! An independent reader of sheets, and a writer: from paper 01, "The sheet", and request S-2, sentence by
+//! sentence.
 
 use crate::call::{self, Add, Call, Place};
 
@@ -28,13 +29,13 @@ pub struct Entry {
 }
 
 /// "a placement is one of five, and two of them carry seconds": `Absolute(s)`, `Start`, `End`,
-/// `Label`, `Offset(o)`; here `Label` carries its target.
+/// `Label`, `Offset(o)`; here `Label` carries its target, which one to be written may have at 256, too.
 #[derive(Clone, Copy, PartialEq, Debug)]
 pub enum At {
     Absolute(u32),
     Start,
     End,
-    Label(u8),
+    Label(usize),
     Offset(u32),
 }
 
@@ -42,8 +43,10 @@ pub enum At {
 const VERSION: u8 = 6;
 /// "7: length wrong."
 const LENGTH: u8 = 7;
-/// "8: count above 64."
+/// "8: count above 64", and S-2: "1 and 8 move to 256".
 const COUNT: u8 = 8;
+/// S-2: "A weekend pass needs up to 256 entries."
+pub const MOST_ENTRIES: usize = 256;
 /// "9: loop mode above 4, or a nonzero number with mode 0, 2 or 3."
 const MODE: u8 = 9;
 /// "10: placement kind above 4, or a wrong target."
@@ -57,6 +60,24 @@ const ROOM: u8 = 15;
 
 /// What a sheet describes, or the number that refuses it: "First met refuses."
 pub fn read(sheet: &[u8]) -> Result<Described, u8> {
+    read_by(sheet, count)
+}
+
+/// S-2: "In the sheet, byte 3 becomes the high byte of the count"; "byte 3 being checked with the count".
+fn count(sheet: &[u8]) -> Result<usize, u8> {
+    // "8;"
+    match claimed(sheet) {
+        n if n > MOST_ENTRIES => Err(COUNT),
+        n => Ok(n),
+    }
+}
+
+/// The count that a sheet of 12 bytes or more claims.
+pub fn claimed(sheet: &[u8]) -> usize {
+    usize::from(sheet[1]) + 256 * usize::from(sheet[3])
+}
+
+fn read_by(sheet: &[u8], count: fn(&[u8]) -> Result<usize, u8>) -> Result<Described, u8> {
     // "Checks: 7 if below 12 bytes;"
     if sheet.len() < 12 {
         return Err(LENGTH);
@@ -65,15 +86,7 @@ pub fn read(sheet: &[u8]) -> Result<Described, u8> {
     if sheet[0] != 1 {
         return Err(VERSION);
     }
-    // "12 for byte 3;"
-    if sheet[3] != 0 {
-        return Err(NOT_ZERO);
-    }
-    // "8;"
-    let n = usize::from(sheet[1]);
-    if n > 64 {
-        return Err(COUNT);
-    }
+    let n = count(sheet)?;
     // "9;"
     let mode = mode(sheet[2], u32_at(sheet, 4))?;
     // "7 if below 12 + 16n;"
@@ -161,7 +174,7 @@ fn record(record: &[u8], n: usize) -> Result<(At, u32), u8> {
         0 => At::Absolute(seconds),
         1 => At::Start,
         2 => At::End,
-        3 => At::Label(target),
+        3 => At::Label(usize::from(target)),
         _ => At::Offset(seconds),
     };
     Ok((at, u32_at(record, 8)))
@@ -176,12 +189,12 @@ fn u32_at(bytes: &[u8], at: usize) -> u32 {
     (u16_at(bytes, at) + 65_536 * u16_at(bytes, at + 2)) as u32
 }
 
-/// The sheet of a description that has at most 64 entries, labels of at most 24 bytes and targets
-/// below the count.
+/// The sheet of a description that has at most 256 entries, labels of at most 24 bytes and targets
+/// below the count. Of one with more entries it is in turn, too, and claims them.
 pub fn write(described: &Described) -> Vec<u8> {
     let n = described.entries.len();
     // "Byte 0 version, 1 count n, 2 mode (order of part 2), 3 zero; 4 to 7 loop number; 8 to 11 scale
-    // bits."
+    // bits." S-2: "byte 3 becomes the high byte of the count".
     let (mode, number) = match described.mode {
         Mode::Once => (0, 0),
         Mode::Times(number) => (1, number),
@@ -189,7 +202,8 @@ pub fn write(described: &Described) -> Vec<u8> {
         Mode::PingPong => (3, 0),
         Mode::PingPongTimes(number) => (4, number),
     };
-    let mut sheet = vec![1, n as u8, mode, 0];
+    let [low, high] = (n as u16).to_le_bytes();
+    let mut sheet = vec![1, low, mode, high];
     sheet.extend(number.to_le_bytes());
     sheet.extend(described.scale.to_le_bytes());
     // "Then n pairs"
@@ -205,7 +219,8 @@ pub fn write(described: &Described) -> Vec<u8> {
             At::Absolute(seconds) => (0, 0, seconds),
             At::Start => (1, 0, 0),
             At::End => (2, 0, 0),
-            At::Label(target) => (3, target, 0),
+            // S-2: "a target still fits its byte"
+            At::Label(target) => (3, target as u8, 0),
             At::Offset(seconds) => (4, 0, seconds),
         };
         sheet.extend([kind, target, 0, 0]);
@@ -222,7 +237,7 @@ pub fn write(described: &Described) -> Vec<u8> {
 pub fn write_into(described: &Described, room: &mut [u8]) -> Result<usize, u8> {
     // "It refuses by 8,"
     let (entries, n) = (&described.entries, described.entries.len());
-    if n > 64 {
+    if n > MOST_ENTRIES {
         return Err(COUNT);
     }
     // "11 (label above 24),"
@@ -230,7 +245,7 @@ pub fn write_into(described: &Described, room: &mut [u8]) -> Result<usize, u8> {
         return Err(PAIR);
     }
     // "10 (target not below the count),"
-    let wrong = |at| matches!(at, At::Label(target) if usize::from(target) >= n);
+    let wrong = |at| matches!(at, At::Label(target) if target >= n);
     if entries.iter().any(|entry| wrong(entry.at)) {
         return Err(PLACEMENT);
     }
@@ -239,6 +254,31 @@ pub fn write_into(described: &Described, room: &mut [u8]) -> Result<usize, u8> {
     let lent = room.get_mut(..sheet.len()).ok_or(ROOM)?;
     lent.copy_from_slice(&sheet);
     Ok(sheet.len())
+}
+
+// The reader and the log of before S-2
+
+/// "an older reader": what it describes, or its number. "12 for byte 3;" and "8;" stood where the count is
+/// checked, "8: count above 64."; the rest is as it was.
+pub fn old_read(sheet: &[u8]) -> Result<Described, u8> {
+    read_by(sheet, |sheet| match (sheet[3], sheet[1]) {
+        (0, n @ 0..=64) => Ok(usize::from(n)),
+        (0, _) => Err(COUNT),
+        _ => Err(NOT_ZERO),
+    })
+}
+
+/// The number by which the reader of before refuses a sheet, 0 where it does not.
+pub fn old_number(sheet: &[u8]) -> u8 {
+    old_read(sheet).err().unwrap_or(0)
+}
+
+/// "an older log": "a length above 2,572 (7 [..])", and its reader's numbers.
+pub fn old_log_number(sheet: &[u8]) -> u8 {
+    match sheet.len() {
+        0..=2572 => old_number(sheet),
+        _ => LENGTH,
+    }
 }
 
 impl Described {
@@ -261,7 +301,7 @@ impl Described {
                 At::Absolute(seconds) => Place::Absolute(f32::from_bits(seconds)),
                 At::Start => Place::Start,
                 At::End => Place::End,
-                At::Label(target) => Place::Label(self.entries[usize::from(target)].label.clone()),
+                At::Label(target) => Place::Label(self.entries[target].label.clone()),
                 At::Offset(seconds) => Place::Offset(f32::from_bits(seconds)),
             };
             calls.push(Call::Add(Add {
@@ -408,7 +448,7 @@ mod tests {
                 described.entries[1].label = vec![b'b'; 25];
             }
             if count {
-                described.entries.resize(65, described.entries[0].clone());
+                described.entries.resize(257, described.entries[0].clone());
             }
             written(&described, 45)
         };
@@ -421,13 +461,18 @@ mod tests {
     fn each_number() {
         assert_eq!(number(&EXAMPLE[..11]), 7);
         assert_eq!(with(&[(0, 0)]), 6);
-        assert_eq!(with(&[(3, 1)]), 12);
-        assert_eq!(with(&[(1, 65)]), 8);
+        // 258, and 514
+        assert_eq!(with(&[(3, 1)]), 8);
+        assert_eq!(with(&[(3, 2)]), 8);
         assert_eq!(with(&[(2, 5)]), 9);
         for (mode, refusal) in [(0, 9), (1, 0), (2, 9), (3, 9), (4, 0)] {
             assert_eq!(with(&[(2, mode), (7, 128)]), refusal);
         }
         assert_eq!(number(&EXAMPLE[..43]), 7);
+        // 65, 256 and 0 entries in 46 bytes
+        assert_eq!(with(&[(1, 65)]), 7);
+        assert_eq!(with(&[(1, 0), (3, 1)]), 7);
+        assert_eq!(with(&[(1, 0)]), 7);
         assert_eq!(with(&[(12, 45)]), 11);
         assert_eq!(with(&[(14, 25)]), 11);
         assert_eq!(with(&[(16, 44)]), 11);
@@ -450,15 +495,193 @@ mod tests {
     #[test]
     fn first_met_refuses() {
         assert_eq!(number(&changed(&[(0, 2)])[..11]), 7);
-        assert_eq!(with(&[(0, 2), (3, 1)]), 6);
-        assert_eq!(with(&[(3, 1), (1, 65)]), 12);
-        assert_eq!(with(&[(1, 65), (2, 5)]), 8);
+        assert_eq!(number(&changed(&[(3, 2)])[..11]), 7);
+        assert_eq!(with(&[(0, 2), (3, 2)]), 6);
+        assert_eq!(with(&[(3, 2), (2, 5)]), 8);
+        assert_eq!(number(&changed(&[(3, 2)])[..12]), 8);
+        assert_eq!(with(&[(1, 65), (2, 5)]), 9);
+        assert_eq!(with(&[(1, 0), (3, 1), (2, 5)]), 9);
         assert_eq!(number(&changed(&[(2, 5)])[..43]), 9);
+        assert_eq!(with(&[(1, 0), (3, 1), (12, 45)]), 7);
         assert_eq!(number(&changed(&[(12, 45)])[..43]), 7);
         assert_eq!(number(&changed(&[(12, 45)])[..45]), 11);
         assert_eq!(number(&changed(&[(20, 5)])[..45]), 7);
         assert_eq!(with(&[(20, 5), (22, 1)]), 10);
         assert_eq!(with(&[(22, 1), (32, 5)]), 12);
         assert_eq!(with(&[(20, 5), (34, 1)]), 10);
+    }
+
+    // S-2: up to 256 entries
+
+    /// The header with these bytes 1 and 3, and so many entries at Start: their empty labels all stand at
+    /// the end, which has these bytes.
+    fn starts(n: usize, [low, high]: [u8; 2], end: [u8; 2]) -> Vec<u8> {
+        let header = [1, low, 0, high, 0, 0, 0, 0, 0, 0, 0x80, 0x3f];
+        let pairs = [end[0], end[1], 0, 0].repeat(n);
+        let records = [1, 0, 0, 0, 0, 0, 0, 0, 0, 0, 0x80, 0x3f].repeat(n);
+        [&header[..], &pairs, &records].concat()
+    }
+
+    /// 12 + 16 x 255 is 4,092, or 252 + 256 x 15.
+    fn of_255() -> Vec<u8> {
+        starts(255, [255, 0], [252, 15])
+    }
+
+    /// 12 + 16 x 256 is 4,108, or 12 + 256 x 16.
+    fn of_256() -> Vec<u8> {
+        starts(256, [0, 1], [12, 16])
+    }
+
+    /// 256 labels of 24 bytes: they stand from 4,108 on.
+    fn longest() -> Vec<u8> {
+        let mut sheet = of_256();
+        for k in 0..256 {
+            let offset = 4108 + 24 * k;
+            let pair = [(offset % 256) as u8, (offset / 256) as u8, 24, 0];
+            sheet[12 + 4 * k..][..4].copy_from_slice(&pair);
+        }
+        sheet.resize(4108 + 24 * 256, b'l');
+        sheet
+    }
+
+    fn set(mut sheet: Vec<u8>, changes: &[(usize, u8)]) -> Vec<u8> {
+        changes.iter().for_each(|&(at, byte)| sheet[at] = byte);
+        sheet
+    }
+
+    #[test]
+    fn the_count_has_two_bytes() {
+        let good = [
+            (64, starts(64, [64, 0], [12, 4])),
+            (65, starts(65, [65, 0], [28, 4])),
+            (255, of_255()),
+            (256, of_256()),
+        ];
+        for (n, sheet) in good {
+            assert_eq!(sheet.len(), 12 + 16 * n);
+            let described = read(&sheet).expect("a good sheet");
+            let entry = Entry {
+                at: At::Start,
+                label: Vec::new(),
+                duration: 0x3f80_0000,
+            };
+            assert_eq!(described.entries, vec![entry; n]);
+            assert_eq!(write(&described), sheet);
+            assert_eq!(number(&sheet[..12 + 16 * n - 1]), 7);
+            assert_eq!(number(&[&sheet[..], &[0]].concat()), 7);
+        }
+        assert_eq!(number(&starts(257, [1, 1], [28, 16])), 8);
+        assert_eq!(number(&starts(512, [0, 2], [12, 32])), 8);
+        // other counts over the same bytes: the first label is elsewhere, or the bytes are too few
+        assert_eq!(number(&set(of_256(), &[(1, 255), (3, 0)])), 11);
+        assert_eq!(number(&set(of_256(), &[(3, 0)])), 7);
+        assert_eq!(number(&set(of_256(), &[(1, 1)])), 8);
+        assert_eq!(number(&set(of_256(), &[(3, 255)])), 8);
+        assert_eq!(number(&set(of_255(), &[(1, 0), (3, 1)])), 7);
+        assert_eq!(number(&set(of_255(), &[(1, 254)])), 11);
+    }
+
+    /// Of 256 entries, the records start at 12 + 4 x 256, which is 1,036; that of entry 255 at 4,096. Of 255,
+    /// they start at 1,032.
+    #[test]
+    fn a_target_is_a_byte() {
+        let placed = |sheet: Vec<u8>, at: usize| {
+            let described = read(&sheet)?;
+            Ok(described.entries.get(at).map(|entry| entry.at))
+        };
+        let (first, last) = ((1036, 3), (4096, 3));
+        let sheet = set(of_256(), &[first, (1037, 255)]);
+        assert_eq!(placed(sheet, 0), Ok(Some(At::Label(255))));
+        let sheet = set(of_256(), &[last, (4097, 255)]);
+        assert_eq!(placed(sheet, 255), Ok(Some(At::Label(255))));
+        let sheet = set(of_256(), &[last, (4097, 254)]);
+        assert_eq!(placed(sheet, 255), Ok(Some(At::Label(254))));
+        let sheet = set(of_255(), &[(1032, 3), (1033, 255)]);
+        assert_eq!(placed(sheet, 0), Err(10));
+        let sheet = set(of_255(), &[(1032, 3), (1033, 254)]);
+        assert_eq!(placed(sheet, 0), Ok(Some(At::Label(254))));
+        // a target where there is none
+        assert_eq!(number(&set(of_256(), &[(4097, 255)])), 10);
+    }
+
+    /// Of the records of entries 0, 64 and 255, which start at 1,036, 1,804 and 4,096.
+    #[test]
+    fn the_zero_bytes_of_a_record() {
+        for record in [1036, 1804, 4096] {
+            for at in [2, 3, 4, 7] {
+                assert_eq!(number(&set(of_256(), &[(record + at, 1)])), 12);
+            }
+            assert_eq!(number(&set(of_256(), &[(record, 5), (record + 2, 1)])), 10);
+            assert_eq!(number(&set(of_256(), &[(record + 2, 1), (3, 2)])), 8);
+        }
+    }
+
+    /// "The longest sheet is 10,252 bytes".
+    #[test]
+    fn the_longest_sheet() {
+        let sheet = longest();
+        assert_eq!(sheet.len(), 10_252);
+        let described = read(&sheet).expect("a good sheet");
+        assert!(
+            described
+                .entries
+                .iter()
+                .all(|entry| entry.label == [b'l'; 24])
+        );
+        let places = label_places(&sheet).expect("a good sheet");
+        assert_eq!((places[0], places[255]), ((4108, 24), (10_228, 24)));
+        assert_eq!(number(&sheet[..10_251]), 7);
+        assert_eq!(number(&[&sheet[..], b"l"].concat()), 7);
+        // the last pair stands at 12 + 4 x 255, which is 1,032
+        assert_eq!(number(&set(sheet.clone(), &[(1034, 25)])), 11);
+        let mut room = vec![9; 10_253];
+        assert_eq!(write_into(&described, &mut room), Ok(10_252));
+        assert_eq!(room, [&sheet[..], &[9]].concat());
+        assert_eq!(write_into(&described, &mut room[..10_251]), Err(15));
+    }
+
+    /// Of 256 entries the target 256 is 10, of 257 that and a label of 25 bytes are 8.
+    #[test]
+    fn writing_256_entries() {
+        let described = read(&of_256()).expect("a good sheet");
+        let refused = |entries: usize, target: usize, label: usize| {
+            let mut described = described.clone();
+            described
+                .entries
+                .resize(entries, described.entries[0].clone());
+            described.entries[1].at = At::Label(target);
+            described.entries[1].label = vec![b'l'; label];
+            let (mut room, as_it_was) = (vec![9; 5000], vec![9; 5000]);
+            let made = write_into(&described, &mut room);
+            (made.is_ok() || room == as_it_was).then_some(made)
+        };
+        assert_eq!(refused(256, 255, 24), Some(Ok(4132)));
+        assert_eq!(refused(256, 256, 24), Some(Err(10)));
+        assert_eq!(refused(256, 256, 25), Some(Err(11)));
+        assert_eq!(refused(257, 255, 24), Some(Err(8)));
+        assert_eq!(refused(257, 257, 25), Some(Err(8)));
+    }
+
+    /// "Stored sheets keep their bytes and reading; an older reader meets a longer sheet with 12 or 8, an
+    /// older log with 8 or 7." Of 160 empty labels a sheet has 2,572 bytes, of 161 it has 2,588.
+    #[test]
+    fn the_reader_and_the_log_of_before() {
+        let old = |sheet: &[u8]| (number(sheet), old_number(sheet), old_log_number(sheet));
+        assert_eq!(old_read(&EXAMPLE), Ok(described()));
+        assert_eq!(old(&EXAMPLE), (0, 0, 0));
+        assert_eq!(old(&starts(64, [64, 0], [12, 4])), (0, 0, 0));
+        assert_eq!(old(&starts(65, [65, 0], [28, 4])), (0, 8, 8));
+        assert_eq!(old(&starts(160, [160, 0], [12, 10])), (0, 8, 8));
+        assert_eq!(old(&starts(161, [161, 0], [28, 10])), (0, 8, 7));
+        assert_eq!(old(&of_255()), (0, 8, 7));
+        assert_eq!(old(&of_256()), (0, 12, 7));
+        assert_eq!(old(&longest()), (0, 12, 7));
+        // what was refused may have another number
+        assert_eq!(old(&changed(&[(3, 1)])), (8, 12, 12));
+        assert_eq!(old(&changed(&[(1, 0), (3, 1)])), (7, 12, 12));
+        assert_eq!(old(&changed(&[(1, 65)])), (7, 8, 8));
+        assert_eq!(old(&changed(&[(1, 65), (2, 5)])), (9, 8, 8));
+        assert_eq!(old(&changed(&[(0, 2), (3, 1)])), (6, 6, 6));
+        assert_eq!(old(&changed(&[(22, 1)])), (12, 12, 12));
     }
 }

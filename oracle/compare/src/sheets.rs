@@ -2,23 +2,31 @@
 //! them, against reader.rs and the Rust's timeline.
 
 use crate::call::{Add, Call, Place};
+use crate::caption_cases::hex;
+use crate::captions::counted;
 use crate::damage::{self, Fault};
 use crate::debug::{self, image};
 use crate::leaf::Leaf;
 use crate::port::{self, Port};
 use crate::reader::{self, At, Described, Mode};
 use crate::rng::Rng;
+use crate::sheet_tally::Tally;
 use crate::trace::{DIGESTS, TEXT, digest, digest_line};
 use animato_core::Playable;
 use animato_timeline::{At as RustAt, Timeline, TimelineState};
 use animato_tween::Loop;
 use std::fmt::Write as _;
 use std::fs;
+use std::io::{self, Read, Write as _};
+use std::thread;
 
 const PROGRAM: &str = "sheet_cases";
 
 /// The longest sheet that the program takes.
-const LONGEST: usize = 4096;
+const LONGEST: usize = 12_000;
+
+/// Of the random sheets, one in so many has more than 64 entries.
+const ONE_LONG_IN: u32 = 14;
 
 /// Sheets in one run of the program, and about how many bytes.
 const BATCH: usize = 20_000;
@@ -28,9 +36,6 @@ const BATCH_BYTES: usize = 8_000_000;
 /// there is room to spare.
 const OLD: u8 = 238;
 const SPARE: usize = 8;
-
-/// The numbers by which sheets are refused.
-const REFUSALS: std::ops::RangeInclusive<u8> = 6..=12;
 
 // What the program prints
 
@@ -84,7 +89,7 @@ fn lines(refusal: u8, described: &Described, out: &mut String) {
         put!(out, "  item {kind} {target} {seconds:08x} {duration:08x} ");
         label_text(&entry.label, out);
     }
-    timeline_lines(&built(described), out);
+    timeline_lines(&built(described, Leaf::new), out);
 }
 
 fn timeline_lines(timeline: &Timeline, out: &mut String) {
@@ -155,24 +160,24 @@ type Spoil = fn(&mut Described);
 
 /// The faults of each write, and whether there is any room.
 const SPOILED: [(&[Spoil], bool); 8] = [
-    (&[count_65], true),
+    (&[count_257], true),
     (&[last_label_of_25], true),
     (&[last_target_n], true),
-    (&[last_label_of_25, count_65], true),
-    (&[last_target_n, count_65], true),
+    (&[last_label_of_25, count_257], true),
+    (&[last_target_n, count_257], true),
     (&[last_label_of_25, last_target_n], true),
     (&[last_label_of_25, last_target_n], false),
     (&[last_label_of_25, first_target_n], true),
 ];
 
-/// "8: count above 64."
-fn count_65(described: &mut Described) {
+/// "8: count above 64", and S-2: "1 and 8 move to 256".
+fn count_257(described: &mut Described) {
     let plain = reader::Entry {
         at: At::Start,
         label: Vec::new(),
         duration: 0,
     };
-    described.entries.resize(65, plain);
+    described.entries.resize(257, plain);
 }
 
 /// "11 (label above 24)".
@@ -184,14 +189,14 @@ fn last_label_of_25(described: &mut Described) {
 
 /// "10 (target not below the count)".
 fn last_target_n(described: &mut Described) {
-    let target = At::Label(described.entries.len() as u8);
+    let target = At::Label(described.entries.len());
     if let Some(last) = described.entries.last_mut() {
         last.at = target;
     }
 }
 
 fn first_target_n(described: &mut Described) {
-    let target = At::Label(described.entries.len() as u8);
+    let target = At::Label(described.entries.len());
     if let Some(first) = described.entries.first_mut() {
         first.at = target;
     }
@@ -206,8 +211,9 @@ fn numbers(made: Result<usize, u8>) -> (u8, usize) {
 }
 
 fn label_text(label: &[u8], out: &mut String) {
+    let digit = |half: u8| char::from(b"0123456789abcdef"[usize::from(half)]);
     for byte in label {
-        put!(out, "{byte:02x}");
+        out.extend([digit(byte / 16), digit(byte % 16)]);
     }
     out.push_str(if label.is_empty() { "-\n" } else { "\n" });
 }
@@ -221,98 +227,39 @@ fn bits(x: f32) -> u32 {
     }
 }
 
-/// The Rust's timeline.
-fn built(described: &Described) -> Timeline {
-    described.calls().iter().fold(Timeline::new(), called)
+/// The Rust's timeline, with a leaf for each duration.
+pub fn built<L>(described: &Described, leaf: impl Fn(f32) -> L) -> Timeline
+where
+    L: Playable + Send + 'static,
+{
+    let calls = described.calls();
+    let add = |timeline, call| called(timeline, call, &leaf);
+    calls.iter().fold(Timeline::new(), add)
 }
 
-fn called(mut timeline: Timeline, call: &Call) -> Timeline {
+fn called<L>(mut timeline: Timeline, call: &Call, leaf: impl Fn(f32) -> L) -> Timeline
+where
+    L: Playable + Send + 'static,
+{
     match call {
         Call::Looping(mode) => timeline.looping(mode.looping()),
         Call::SetTimeScale(scale) => {
             timeline.set_time_scale(*scale);
             timeline
         }
-        Call::Add(add) => added(timeline, add),
+        Call::Add(add) => added(timeline, add, leaf(add.duration)),
         _ => unreachable!("a sheet has no such call"),
     }
 }
 
-fn added(timeline: Timeline, add: &Add) -> Timeline {
-    let (label, leaf) = (image(&add.label), Leaf::new(add.duration));
+fn added(timeline: Timeline, add: &Add, leaf: impl Playable + Send + 'static) -> Timeline {
+    let label = image(&add.label);
     match &add.at {
         Place::Absolute(secs) => timeline.add(label, leaf, RustAt::Absolute(*secs)),
         Place::Start => timeline.add(label, leaf, RustAt::Start),
         Place::End => timeline.add(label, leaf, RustAt::End),
         Place::Label(name) => timeline.add(label, leaf, RustAt::Label(&image(name))),
         Place::Offset(secs) => timeline.add(label, leaf, RustAt::Offset(*secs)),
-    }
-}
-
-// What was met
-
-#[derive(Default)]
-struct Tally {
-    sheets: u64,
-    damaged: u64,
-    numbers: [u64; 16],
-    /// By the numbers that the two faults of a sheet give alone, the smaller first.
-    pairs: [[u64; 16]; 16],
-}
-
-impl Tally {
-    fn pair(&mut self, one: u8, other: u8) {
-        let [low, high] = [one.min(other), one.max(other)].map(usize::from);
-        self.pairs[low][high] += 1;
-    }
-
-    fn print(&self) {
-        println!("{} sheets, {} of them damaged", self.sheets, self.damaged);
-        println!("  accepted   {:>9}", self.numbers[0]);
-        for number in REFUSALS {
-            let count = self.numbers[usize::from(number)];
-            println!("  refusal {number:<2} {count:>9}");
-        }
-        println!("two faults in a sheet, by the numbers that each gives alone (- is none):");
-        let name = |number: u8| match number {
-            0 => "-".to_string(),
-            _ => number.to_string(),
-        };
-        let numbers = || std::iter::once(0).chain(REFUSALS);
-        let head: String = numbers().map(|high| format!("{:>8}", name(high))).collect();
-        println!("    {head}");
-        for low in numbers() {
-            let row: String = numbers()
-                .map(
-                    |high| match self.pairs[usize::from(low)][usize::from(high)] {
-                        _ if high < low => format!("{:>8}", ""),
-                        count => format!("{count:>8}"),
-                    },
-                )
-                .collect();
-            println!("  {:>2}{row}", name(low));
-        }
-    }
-
-    /// Fails where there were too few sheets, or where a number or a pair of numbers was not met.
-    fn verdict(&self, least: u64) -> Result<(), String> {
-        if self.damaged < least {
-            return Err(format!(
-                "{PROGRAM}: {} damaged sheets, fewer than {least}",
-                self.damaged
-            ));
-        }
-        for low in REFUSALS {
-            if self.numbers[usize::from(low)] == 0 {
-                return Err(format!("{PROGRAM}: no refusal by {low}"));
-            }
-            for high in low..=*REFUSALS.end() {
-                if self.pairs[usize::from(low)][usize::from(high)] == 0 {
-                    return Err(format!("{PROGRAM}: no faults of {low} and {high} together"));
-                }
-            }
-        }
-        Ok(())
     }
 }
 
@@ -346,16 +293,24 @@ pub fn compare(options: &Options) -> Result<(), String> {
     };
     for sheet in damage::small() {
         run.single_faults(&sheet)?;
+        run.all(&sheet, &damage::high_bytes(&sheet))?;
         let flips = damage::flips(&sheet);
-        run.pairs(&sheet, &flips, &flips)?;
-        run.pairs(&sheet, &flips, &damage::cuts(&sheet))?;
+        run.pairs(&sheet, &flips, &flips, 1)?;
+        run.pairs(&sheet, &flips, &damage::cuts(&sheet), 1)?;
     }
     for sheet in damage::small().into_iter().chain(damage::large()) {
-        let fields = damage::fields(&sheet);
-        run.pairs(&sheet, &fields, &fields)?;
+        let fields = [damage::fields(&sheet), damage::counts(&sheet)].concat();
+        run.pairs(&sheet, &fields, &fields, 1)?;
     }
     for sheet in damage::large() {
         run.single_faults(&sheet)?;
+    }
+    for sheet in damage::longer() {
+        run.some_faults(&sheet)?;
+    }
+    for sheet in damage::too_many() {
+        run.push(sheet.clone(), &[])?;
+        run.all(&sheet, &damage::counts(&sheet))?;
     }
     while run.tally.sheets < options.sheets {
         run.random()?;
@@ -363,11 +318,13 @@ pub fn compare(options: &Options) -> Result<(), String> {
     run.flush()?;
     println!("{PROGRAM}: seed {}, no differences", options.seed);
     run.tally.print();
-    run.tally.verdict(options.least)
+    run.tally
+        .verdict(options.least)
+        .map_err(|why| format!("{PROGRAM}: {why}"))
 }
 
 impl Run<'_> {
-    /// The good sheet, every bit flipped, every truncation, bytes after the end, other fields.
+    /// The good sheet, every bit flipped, every truncation, bytes after the end, other fields and counts.
     fn single_faults(&mut self, sheet: &[u8]) -> Result<(), String> {
         self.push(sheet.to_vec(), sheet)?;
         let faults = [
@@ -375,25 +332,56 @@ impl Run<'_> {
             damage::cuts,
             damage::appended,
             damage::fields,
+            damage::counts,
         ];
-        for fault in faults.iter().flat_map(|faults| faults(sheet)) {
-            self.push(fault.applied(sheet), sheet)?;
-        }
-        Ok(())
+        faults
+            .iter()
+            .try_for_each(|faults| self.all(sheet, &faults(sheet)))
     }
 
-    /// Each pair of two faults, each one once.
-    fn pairs(&mut self, sheet: &[u8], first: &[Fault], second: &[Fault]) -> Result<(), String> {
+    /// Of a sheet of more than 64 entries: the sheet, bytes after the end, other fields and counts; and some of
+    /// the bits flipped, of the truncations, of the bytes 3, and of the pairs of other fields and counts.
+    fn some_faults(&mut self, sheet: &[u8]) -> Result<(), String> {
+        self.push(sheet.to_vec(), sheet)?;
+        self.all(sheet, &damage::appended(sheet))?;
+        let some =
+            |faults: Vec<Fault>, one_in| faults.into_iter().step_by(one_in).collect::<Vec<_>>();
+        self.all(sheet, &some(damage::flips(sheet), 61))?;
+        self.all(sheet, &some(damage::cuts(sheet), 19))?;
+        self.all(sheet, &some(damage::high_bytes(sheet), 7))?;
+        let fields = [damage::fields(sheet), damage::counts(sheet)].concat();
+        self.all(sheet, &fields)?;
+        self.pairs(sheet, &fields, &fields, 41)
+    }
+
+    fn all(&mut self, sheet: &[u8], faults: &[Fault]) -> Result<(), String> {
+        faults
+            .iter()
+            .try_for_each(|fault| self.push(fault.applied(sheet), sheet))
+    }
+
+    /// Each pair of two faults, each one once; or one of so many pairs.
+    fn pairs(
+        &mut self,
+        sheet: &[u8],
+        first: &[Fault],
+        second: &[Fault],
+        one_in: usize,
+    ) -> Result<(), String> {
         let alone = |fault: &Fault| number(&fault.applied(sheet));
         let numbers: Vec<u8> = second.iter().map(alone).collect();
         let same = first == second;
+        let mut pairs = 0;
         for (index, one) in first.iter().enumerate() {
             let (number, damaged) = (alone(one), one.applied(sheet));
             let start = if same { index + 1 } else { 0 };
             for (other, &other_number) in second.iter().zip(&numbers).skip(start) {
                 if one.beside(other) {
-                    self.tally.pair(number, other_number);
-                    self.push(other.applied(&damaged), sheet)?;
+                    pairs += 1;
+                    if pairs % one_in == 0 {
+                        self.tally.pair(number, other_number);
+                        self.push(other.applied(&damaged), sheet)?;
+                    }
                 }
             }
         }
@@ -403,13 +391,21 @@ impl Run<'_> {
     fn random(&mut self) -> Result<(), String> {
         let rng = &mut self.rng;
         if rng.below(10) == 0 {
-            let noise = damage::noise(rng);
+            let mut noise = damage::noise(rng);
+            if rng.below(4) == 0 {
+                damage::random_count(rng).apply(&mut noise);
+            }
             return self.push(noise, &[]);
         }
-        let good = damage::random(rng);
-        let faults = rng.pick(&[1, 1, 2, 2, 2, 3, 4]);
+        let (good, faults) = match rng.below(ONE_LONG_IN) {
+            0 => (damage::random_long(rng), rng.pick(&[0, 0, 1, 1, 1, 2, 3])),
+            _ => (damage::random(rng), rng.pick(&[1, 1, 2, 2, 2, 3, 4])),
+        };
         let faults: Vec<Fault> = (0..faults)
-            .map(|_| damage::random_fault(rng, &good))
+            .map(|_| match rng.below(16) {
+                0 => damage::random_count(rng),
+                _ => damage::random_fault(rng, &good),
+            })
             .collect();
         let mut sheet = good.clone();
         faults.iter().for_each(|fault| fault.apply(&mut sheet));
@@ -438,16 +434,23 @@ impl Run<'_> {
     fn flush(&mut self) -> Result<(), String> {
         let sheets = std::mem::take(&mut self.waiting);
         self.bytes = 0;
-        if self.tally.numbers == [0; 16] {
+        if self.tally.is_new() {
             compare_text(&sheets, self.port)?;
         }
         let (end, cut) = damaged_end(&mut self.rng, &sheets);
-        let output = self.port.run(PROGRAM, &input(DIGESTS, &sheets, &end))?;
+        let (port, input) = (self.port, input(DIGESTS, &sheets, &end));
+        // both sides at once
+        let (output, answers) = thread::scope(|scope| {
+            let output = scope.spawn(|| port.run(PROGRAM, &input));
+            let answers: Vec<_> = sheets.iter().map(|sheet| digest_answer(sheet)).collect();
+            (output.join().expect("a run"), answers)
+        });
+        let output = output?;
         let mut lines = output.split_inclusive(|&byte| byte == b'\n');
-        for sheet in &sheets {
-            let (text, refusal) = answer(sheet);
-            self.tally.numbers[usize::from(refusal)] += 1;
-            if lines.next() != Some(&digest_line(text.as_bytes())) {
+        for (sheet, (digest, refusal)) in sheets.iter().zip(&answers) {
+            let added = self.tally.add(sheet, *refusal);
+            added.map_err(|why| format!("{PROGRAM}: {why}\n{}", hex(sheet)))?;
+            if lines.next() != Some(digest) {
                 return Err(shown(sheet, self.port)?);
             }
         }
@@ -456,6 +459,11 @@ impl Run<'_> {
         }
         Ok(())
     }
+}
+
+fn digest_answer(sheet: &[u8]) -> (Vec<u8>, u8) {
+    let (text, refusal) = answer(sheet);
+    (digest_line(text.as_bytes()), refusal)
 }
 
 fn number(sheet: &[u8]) -> u8 {
@@ -484,7 +492,7 @@ fn damaged_end(rng: &mut Rng, sheets: &[Vec<u8>]) -> (Vec<u8>, bool) {
     match rng.below(4) {
         0 => bytes.truncate(1 + rng.below(bytes.len() as u32 - 1) as usize),
         1 => bytes.truncate(1 + rng.below(3) as usize),
-        2 => bytes[..4].copy_from_slice(&rng.pick(&[4097, 65_536, u32::MAX]).to_le_bytes()),
+        2 => bytes[..4].copy_from_slice(&rng.pick(&[12_001, 65_536, u32::MAX]).to_le_bytes()),
         _ => bytes.clear(),
     }
     // A sheet of no bytes is whole where its length is.
@@ -524,19 +532,85 @@ fn compare_text(sheets: &[Vec<u8>], port: &Port) -> Result<(), String> {
 fn shown(sheet: &[u8], port: &Port) -> Result<String, String> {
     let one = [sheet.to_vec()];
     let output = port.run(PROGRAM, &input(TEXT, &one, &[]))?;
-    let hex: String = sheet.iter().map(|byte| format!("{byte:02x}")).collect();
     Ok(format!(
-        "{PROGRAM}: the answers to this sheet differ\n{hex}\nexpected:\n{}port:\n{}",
+        "{PROGRAM}: the answers to this sheet differ\n{}\nexpected:\n{}port:\n{}",
+        hex(sheet),
         texts(&one),
         String::from_utf8_lossy(&output)
     ))
 }
 
-// The sample
+// Answers and the sample
+
+/// Answers the sheets on standard input, in the form that its first byte says.
+pub fn write_answers() -> Result<(), String> {
+    let mut input = Vec::new();
+    let fail = |e: io::Error| e.to_string();
+    io::stdin().read_to_end(&mut input).map_err(fail)?;
+    io::stdout().write_all(&answers(&input)).map_err(fail)
+}
+
+/// A sheet that the input does not have whole, or that is longer, is `cut`, and the last.
+fn answers(input: &[u8]) -> Vec<u8> {
+    let mut out = Vec::new();
+    let Some((&form, mut rest)) = input.split_first().filter(|(form, _)| **form <= DIGESTS) else {
+        return out;
+    };
+    for number in 1.. {
+        if rest.is_empty() {
+            break;
+        }
+        let (text, after) = match counted(rest, LONGEST) {
+            Some((sheet, after)) => (answer(sheet).0, after),
+            None => ("cut\n".to_string(), &[][..]),
+        };
+        rest = after;
+        match form {
+            TEXT => out.extend(format!("sheet {number}\n{text}").into_bytes()),
+            _ => out.extend(digest_line(text.as_bytes())),
+        }
+    }
+    out
+}
 
 /// Random sheets of the sample, and the longest of them.
 const SAMPLED: usize = 100;
 const SAMPLED_BYTES: usize = 200;
+
+/// Sheets of more than 64 entries, good ones and some with other counts, ends and records; every byte 3 of a
+/// sheet without entries, and small sheets with other counts.
+fn sampled_long() -> Vec<Vec<u8>> {
+    let small = damage::small();
+    let high_bytes = (1..=255).map(|high| Fault::Set(3, vec![high]).applied(&small[0]));
+    let counts = [&small[0], &small[7]].map(|sheet| applied(sheet, damage::counts(sheet)));
+    let longer = damage::longer();
+    let [of_65, of_255, of_256] = [1, 4, 6].map(|number| &longer[number]);
+    let every_fourth = damage::counts(of_256).into_iter().step_by(4);
+    // the records of 255 entries start at 1,032, of 256 at 1,036
+    let (last_of_255, last_of_256) = (1032 + 12 * 254, 1036 + 12 * 255);
+    let others = vec![
+        Fault::Set(last_of_256, vec![3, 255, 0, 0, 0, 0, 0, 0]),
+        Fault::Set(last_of_256, vec![1, 0, 1, 0, 0, 0, 0, 0]),
+        Fault::Set(last_of_256, vec![1, 255, 0, 0, 0, 0, 0, 0]),
+        Fault::Cut(of_256.len() - 1),
+        Fault::Append(vec![0]),
+    ];
+    [
+        high_bytes.collect(),
+        counts.concat(),
+        applied(of_65, damage::counts(of_65)),
+        applied(of_256, every_fourth.collect()),
+        applied(of_256, others),
+        applied(of_255, vec![Fault::Set(last_of_255, vec![3, 255, 0, 0])]),
+        damage::too_many().into_iter().step_by(3).take(2).collect(),
+        longer,
+    ]
+    .concat()
+}
+
+fn applied(sheet: &[u8], faults: Vec<Fault>) -> Vec<Vec<u8>> {
+    faults.iter().map(|fault| fault.applied(sheet)).collect()
+}
 
 /// Writes good and damaged sheets, and the answers to them, to where `rt` replays them.
 pub fn write_sample() -> Result<(), String> {
@@ -556,6 +630,7 @@ pub fn write_sample() -> Result<(), String> {
             left -= 1;
         }
     }
+    sheets.extend(sampled_long());
     let text = texts(&sheets);
     let folder = port::root().join("crates").join(PROGRAM);
     fs::write(folder.join("stdin"), input(TEXT, &sheets, &[])).map_err(|e| e.to_string())?;

@@ -308,7 +308,7 @@ mod tests {
         let sheets = [
             (6, with(A_B, &[(0, 2)])),
             (7, with(A_B, &[(18, 2)])),
-            (8, with(A_B, &[(1, 65)])),
+            (8, with(A_B, &[(3, 1)])),
             (9, with(A_B, &[(2, 5)])),
             (10, with(A_B, &[(32, 5)])),
             (11, with(A_B, &[(12, 45)])),
@@ -323,6 +323,29 @@ mod tests {
             }
         }
         assert_eq!(answer(&[], &[], 0), (7, Source::Sheet, 0, 0));
+    }
+
+    /// Request S-2: 256 entries, whose labels start at 12 + 16 x 256, which is 4,108; all are empty but the last
+    /// one, `b`.
+    #[test]
+    fn entry_255_of_256() {
+        let mut sheet = vec![1, 0, 0, 1, 0, 0, 0, 0, 0, 0, 0x80, 0x3f];
+        sheet.extend([12, 16, 0, 0].repeat(255));
+        sheet.extend([12, 16, 1, 0]);
+        sheet.extend([1, 0, 0, 0, 0, 0, 0, 0, 0, 0, 0x80, 0x3f].repeat(256));
+        sheet.push(b'b');
+        assert_eq!(answer(&BAR, &sheet, 255), (0, Source::List, 11, 3));
+        assert_eq!(answer(&[0, 0], &sheet, 255), (0, Source::Sheet, 4108, 1));
+        for entry in [0, 64, 254] {
+            assert_eq!(answer(&BAR, &sheet, entry), (0, Source::Sheet, 4108, 0));
+        }
+        for entry in [256, 257, 511, 512, u32::MAX] {
+            assert_eq!(answer(&BAR, &sheet, entry), REFUSED);
+        }
+        // 257 entries
+        sheet[1] = 1;
+        assert_eq!(answer(&BAR, &sheet, 0), (8, Source::Sheet, 0, 0));
+        assert_eq!(answer(&[], &sheet, 256), (8, Source::Sheet, 0, 0));
     }
 
     /// "any lengths": of a code, too, and ends may pass what an offset can say.

@@ -12,7 +12,7 @@ loop-item-init c =
 
 pub put_record-requires : goal.put_record-requires
 put_record-requires c =
-    (omega arith, target_small _ c.args.items.now c.loop-item.item-index _ c.requires.0 c.requires.2 c.loop-item-test.true)
+    (omega arith, target_small c.args.items.now c.loop-item.item-index _ c.requires.0 c.requires.2 c.loop-item-test.true)
 
 pub loop-item-preserved : goal.loop-item-preserved
 loop-item-preserved c =
