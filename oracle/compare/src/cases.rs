@@ -109,7 +109,7 @@ const SIDES: [u32; 15] = [
     u32::MAX,
 ];
 
-const COUNTS: [u32; 18] = [
+const COUNTS: [u32; 21] = [
     0,
     1,
     2,
@@ -118,6 +118,9 @@ const COUNTS: [u32; 18] = [
     5,
     6,
     64,
+    255,
+    256,
+    257,
     65_536,
     16_777_215,
     16_777_216,
@@ -249,7 +252,7 @@ pub fn edges() -> Vec<Record> {
         rows(&mut cases, count, &STEPS, &places);
     }
     for hash in HASHES {
-        for index in [0, 1, 2, 63, 65_536, u32::MAX] {
+        for index in [0, 1, 2, 63, 255, 65_536, u32::MAX] {
             randoms(&mut cases, hash, index, &RANGES);
         }
     }

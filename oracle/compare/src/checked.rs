@@ -15,10 +15,10 @@ use std::sync::Arc;
 
 /// "0 means accepted."
 const ACCEPTED: u8 = 0;
-/// "1: an entry past the 64th, by `add`, sequence, `stagger` or group."
+/// "1: an entry past the 64th, by `add`, sequence, `stagger` or group"; S-2: "1 and 8 move to 256".
 const TOO_MANY_ENTRIES: u8 = 1;
-/// S-2: "1 and 8 move to 256". What was the limit before is here where long panels begin.
 pub const MAX_ENTRIES: usize = 256;
+/// The limit of before: a panel of more entries is a long one.
 pub const SHORT_PANEL: usize = 64;
 /// "2: an entry's own label above 24 bytes (after 1)".
 const LABEL_TOO_LONG: u8 = 2;
@@ -197,7 +197,7 @@ impl Checked {
         }
         slices.write(&self.twins.rows());
         for (place, &number) in update.list.iter_mut().zip(&completed) {
-            *place = number as u8;
+            *place = u8::try_from(number).expect("a byte has 256 numbers");
         }
         update.running = running;
         update.completed = self.twins.whole_run();
