@@ -1,4 +1,5 @@
 // The jobs: what is called, on which entries.
+use crate::rows::LIST;
 use completions::MOST_ENTRIES;
 use timeline::timeline::{At, Timeline};
 use tween::Loop;
@@ -65,7 +66,7 @@ impl Job {
     pub(crate) fn listed(self) -> usize {
         match self {
             Job::LongestWalk => MOST_ENTRIES,
-            _ => 2 * MOST_ENTRIES,
+            _ => LIST,
         }
     }
 

@@ -1,7 +1,7 @@
 // Makes many calls on a timeline, to be timed beside the Rust (`tools/bench`).
 //
-// Standard input: which job, a u16 of how many entries, and a u32 of how many calls, little-endian. The job's number has 10 more where all
-// rows are looked at after every call, and 20 more where it is played by value. It prints the elapsed time that the calls come to,
+// Standard input: which job, a u16 of how many entries, and a u32 of how many calls, little-endian. The job's number has 10 more where
+// all rows are looked at after every call, and 20 more where it is played by value. It prints the elapsed time that the calls come to,
 // or the base where entries are added, and a sum of what was seen, each as the eight hex digits of its bits. No input: nothing is
 // done.
 #![tactic(auto)]

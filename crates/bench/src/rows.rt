@@ -5,7 +5,7 @@ use steps::MAX_ENTRIES;
 use track::rows::Rows;
 
 // Places of the list. An update by a base can complete an entry twice, since the ends of cycles are rounded.
-const LIST: usize = 2 * MOST_ENTRIES;
+pub(crate) const LIST: usize = 2 * MOST_ENTRIES;
 
 // Room for what is lent to the calls of a job.
 #[derive(Drop)]
