@@ -31,9 +31,9 @@ pub fn check_replies(replies: &[u8], n: usize) -> Result<(), Refusal>
     Ok(())
 }
 
-// Whether one of the replies is above 1.
+// Whether one of the replies is above 1. A fold, which looks at many at once: `any` would end at the first, and looks at one by one.
 fn above_one(replies: &[u8]) -> bool
     ensures { result ≡ above_one replies.now }
 {
-    replies.iter().any(|reply| *reply > 1)
+    replies.iter().fold(false, |bad, reply| bad | (*reply > 1))
 }
