@@ -33,18 +33,19 @@ use Rattle.clock.specs.Clocks.{within, reach_of, advanced_clock}
 use Rattle.track.specs.declared.rows.Rows.{Rows}
 use Rattle.track.specs.declared.track.Track.{Track}
 use Rattle.track.specs.Tracks.{live, track_base, rows_of, moved}
-use Rattle.track.specs.Columns.{track_of}
+use Rattle.track.specs.Columns.{track_of, with_clock_at}
 use Rattle.track.specs.Updates.{ticks, newly_done, Advance}
 use Rattle.track.specs.Calls.{TrackOut}
 use Rattle.track.specs.Answers.{Answer, reached_from, UpdatesBy}
 use Rattle.track.proofs.Columns.{own, completed}
 use Rattle.track.proofs.Outcomes.{outnumbered, finished, listed-within, listed-over}
+use Rattle.track.specs.declared.track.Playhead.{Playhead}
 use Rattle.player.specs.declared.engine.Player.{Player}
 use Rattle.player.specs.declared.engine.Updated.{Updated}
-use Rattle.player.specs.Answered.{playing_in, at_clock, answer_of, answer_in, ticked_to, synced_to, UpdatesTo}
+use Rattle.player.specs.Answered.{playing_in, SameColumns, at_clock, answer_of, answer_in, ticked_to, synced_to, UpdatesTo}
 use Rattle.player.specs.Loops.{first_in, ticks_in, done_in, SentIn, SentTo}
 use Rattle.player.proofs.Checks.{same_slices, same_player}
-use Rattle.player.proofs.Loops.{few, Left, same_columns, applied, ticked-own}
+use Rattle.player.proofs.Loops.{few, Left, applied, ticked-own}
 
 -- in Once the run is the base
 pub once_reach : (mode : Loop) (base next : Float) → is_once mode ≡ true → within base next ≡ reach_of mode base next
@@ -88,15 +89,15 @@ module _ (p : Player) where
         (same_player p, same_slices r, told (ap answer_in ex) refl el (outnumbered t l₀ r.kinds.now r.amounts.now r.places.now v f))
 
     -- carried out
-    pub carried : {q : Player} {s : Rows} {to : Reach} {n : ℕ} {u : Updated} → Left p q (advanced_clock p.head.clock to.elapsed to.ended) → answer_of u ≡ reached_from p.head.clock to.ended n → to ≡ v.reach
-        → ltb (length l₀) (length v.listed) ≡ false → n ≡ length v.listed → l ≡ over v.listed l₀ → (playing_in q ≡ moved t (advanced_clock p.head.clock to.elapsed to.ended) v.steps) × SentIn (rows_of v.steps) r s
+    pub carried : {q : Player} {s : Rows} {to : Reach} {n : ℕ} {u : Updated} → answer_of u ≡ reached_from p.head.clock to.ended n → to ≡ v.reach
+        → ltb (length l₀) (length v.listed) ≡ false → n ≡ length v.listed → l ≡ over v.listed l₀ → SameColumns p q × (playing_in q ≡ moved t (advanced_clock p.head.clock to.elapsed to.ended) v.steps) × SentIn (rows_of v.steps) r s
         → UpdatesTo p v (Ok u) q l₀ l r s
-    carried {q} {s} {to} {n} {u} left ex et f en el sent =
+    carried {q} {s} {to} {n} {u} ex et f en el sent =
         let answer = ex ∙ ap (λ (d : Clock). reached_from d to.ended n) (sym clock-own) in
-        let track = sent.0 ∙ ap (λ (d : Clock). moved t (advanced_clock d to.elapsed to.ended) v.steps) (sym clock-own) in (
-          same_columns left,
-          sent.1.0,
-          told answer track refl (finished t l₀ r.kinds.now r.amounts.now r.places.now l s.kinds.now s.amounts.now s.places.now v (ap (λ (z : Reach). z.elapsed) et) (ap (λ (z : Reach). z.ended) et) f en el refl sent.1.1),
+        let track = sent.1 ∙ ap (λ (d : Clock). moved t (advanced_clock d to.elapsed to.ended) v.steps) (sym clock-own) in (
+          sent.0,
+          sent.2.0,
+          told answer track refl (finished t l₀ r.kinds.now r.amounts.now r.places.now l s.kinds.now s.amounts.now s.places.now v (ap (λ (z : Reach). z.elapsed) et) (ap (λ (z : Reach). z.ended) et) f en el refl sent.2.1),
         )
 
   module _ {n : ℕ} (all : n ≡ length (live t)) (base next : Float) where
@@ -122,7 +123,7 @@ module _ (p : Player) where
             → UpdatesTo p (ticked_to t base next rs) (Ok u) q l₀ l r s
         tick-told {q} {r} {s} {l₀} {l} {m} {u} left ex f d sent =
             subst (λ (v : Advance). UpdatesTo p v (Ok u) q l₀ l r s) course-own
-            (carried (course (live t)) left ex refl (sym (ap (λ (v : Advance). ltb (length l₀) (length v.listed)) all_own) ∙ f) (d.0 ∙ ap (λ (v : Advance). length v.listed) all_own) (d.1 ∙ ap (λ (v : Advance). over v.listed l₀) all_own) (ticked-own p all left step rs sent))
+            (carried (course (live t)) ex refl (sym (ap (λ (v : Advance). ltb (length l₀) (length v.listed)) all_own) ∙ f) (d.0 ∙ ap (λ (v : Advance). length v.listed) all_own) (d.1 ∙ ap (λ (v : Advance). over v.listed l₀) all_own) (ticked-own p all left step rs sent))
 
     -- ---- the other modes
 
@@ -155,4 +156,8 @@ module _ (p : Player) where
           let reached : to ≡ reach_of t.looping base next = et ∙ ap (λ (x : Loop). reach_of x base next) same in
           let there : time ≡ local_time t.looping base (reach_of t.looping base next).elapsed = ei ∙ ap (λ (x : Loop). local_time x base to.elapsed) same ∙ ap (λ (z : Reach). local_time t.looping base z.elapsed) reached in
           let put = applied p all left (Sync time) sent in
-          carried (synced_to t base next) left ex reached z.0 z.1 z.2 (rw there at put)
+          carried (synced_to t base next) ex reached z.0 z.1 z.2 (rw there at put)
+
+-- nothing has moved
+pub same-track : (h : Playhead) (ss ds : List Float) (ms : List Bool) {c : Clock} → c ≡ h.clock → track_of (with_clock_at h c) ss ds ms ≡ track_of h ss ds ms
+same-track h ss ds ms e = ap (λ (d : Clock). track_of (with_clock_at h d) ss ds ms) e

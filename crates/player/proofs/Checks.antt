@@ -33,4 +33,4 @@ same_slices r = record { kinds = refl; amounts = refl; places = refl }
 
 -- nor is a player other that nobody moved
 pub same_player : (p : Player) → SameColumns p p
-same_player p = record { head = refl; spans = refl; marks = refl }
+same_player p = record { head = refl; spans = refl; marks = refl; len = refl; spare = refl }

@@ -4,7 +4,7 @@ use mathlib.Core.Path.{◌≡◌, refl, sym, ap, subst, ◌∙◌}
 use mathlib.Core.Bool.{Bool, false, not, ◌&&◌}
 use mathlib.Core.List.{List, map, map-map}
 use native.Mathlib.Omega.{arith}
-use lib.ListN.{length, get_or, set, length-set, length-map}
+use lib.ListN.{length, get_or, set, drop, length-set, length-map}
 use lib.Ieee.{Float, nan}
 use Rattle.steps.specs.Rows.{ruled, ticked}
 use Rattle.steps.specs.Slices.{over}
@@ -14,6 +14,7 @@ use Rattle.steps.specs.declared.Rule.{Rule}
 use Rattle.steps.specs.declared.Step.{Step}
 use Rattle.steps.specs.declared.Stepped.{Stepped}
 use Rattle.std.proofs.lemmas.List.{get_or-map}
+use Rattle.std.proofs.lemmas.Slice.{drop-append-drop}
 use Rattle.steps.proofs.Lists.{front, front-more, front_at, front-all}
 use Rattle.completions.specs.Columns.{most_entries}
 use Rattle.completions.specs.declared.Spans.{Spans}
@@ -24,7 +25,7 @@ use Rattle.track.specs.declared.track.Playhead.{Playhead}
 use Rattle.track.specs.Tracks.{live, rows_of, done_of, moved, Sent}
 use Rattle.track.specs.Columns.{entry_of, first_of, track_of, with_clock_at}
 use Rattle.track.specs.Updates.{ticks}
-use Rattle.track.proofs.Marks.{no_entry, no_step}
+use Rattle.track.proofs.Marks.{no_entry, no_step, length_over}
 use Rattle.track.proofs.Columns.{first_at, own, put, roomy}
 use Rattle.track.proofs.Ticks.{length-ticks, turn_at}
 use Rattle.player.specs.declared.engine.Player.{Player}
@@ -170,10 +171,10 @@ pub record Left (p q : Player) (c : Clock) : Type 0 where
   pub spans : q.spans ≡ p.spans
   pub marks : q.marks.ghost_name ≡ p.marks.ghost_name
 
-pub same_columns : {p q : Player} {c : Clock} → Left p q c → SameColumns p q
-same_columns {p} {q} {c} l =
+pub same_columns : {p q : Player} {c : Clock} → Left p q c → length q.marks.now ≡ length p.marks.now → drop (length (live (playing_in p))) q.marks.now ≡ drop (length (live (playing_in p))) p.marks.now → SameColumns p q
+same_columns {p} {q} {c} l len spare =
     let own : q.head.clock ≡ c = ap (λ (h : Playhead). h.clock) l.head in
-    record { head = l.head ∙ ap (with_clock_at p.head) (sym own); spans = l.spans; marks = l.marks }
+    record { head = l.head ∙ ap (with_clock_at p.head) (sym own); spans = l.spans; marks = l.marks; len = len; spare = spare }
 
 module _ (p : Player) {n : ℕ} (all : n ≡ length (live (playing_in p))) where
   abbrev t : Track
@@ -191,20 +192,24 @@ module _ (p : Player) {n : ℕ} (all : n ≡ length (live (playing_in p))) where
   module _ {q : Player} {c : Clock} {r s : Rows} (l : Left p q c) where
     -- steps for every entry have been sent
     pub sent-own : (f : List Entry → List Stepped) → ((es : List Entry) → length (f es) ≡ length es) → SentTo (f (first_in n p.spans p.marks.now)) p.marks.now q.marks.now r s
-        → (playing_in q ≡ moved t c (f (live t))) × SentIn (rows_of (f (live t))) r s
+        → SameColumns p q × (playing_in q ≡ moved t c (f (live t))) × SentIn (rows_of (f (live t))) r s
     sent-own f lf s' =
         let ss = p.spans.starts.now in
         let ds = p.spans.durations.now in
         let ms = p.marks.now in
         let e = subst (λ (es : List Entry). SentTo (f es) ms q.marks.now r s) (own p.head ss ds ms n all) s' in
         let columns = ap (λ (x : Spans). track_of q.head x.starts.now x.durations.now q.marks.now) l.spans ∙ ap (λ (h : Playhead). track_of h ss ds q.marks.now) l.head in
-        (columns ∙ put p.head ss ds ms n all c (f (live t)) (lf (live t)) q.marks.now e.0, e.1)
+        let done = done_of (f (live t)) in
+        let each : length done ≡ length (live t) = length-map (f (live t)) (λ (x : Stepped). x.done) ∙ lf (live t) in
+        let len : length q.marks.now ≡ length ms = ap length e.0 ∙ length_over done ms (omega (arith, all, each, reads.2)) in
+        let spare = ap (drop (length (live t))) e.0 ∙ drop-append-drop (length done) ms done (length (live t)) (omega (arith, each)) refl in
+        (same_columns l len spare, columns ∙ put p.head ss ds ms n all c (f (live t)) (lf (live t)) q.marks.now e.0, e.1)
 
     -- by a rule
-    pub applied : (rule : Rule) → SentTo (map (ruled rule) (first_in n p.spans p.marks.now)) p.marks.now q.marks.now r s → (playing_in q ≡ moved t c (map (ruled rule) (live t))) × SentIn (rows_of (map (ruled rule) (live t))) r s
+    pub applied : (rule : Rule) → SentTo (map (ruled rule) (first_in n p.spans p.marks.now)) p.marks.now q.marks.now r s → SameColumns p q × (playing_in q ≡ moved t c (map (ruled rule) (live t))) × SentIn (rows_of (map (ruled rule) (live t))) r s
     applied rule = sent-own (map (ruled rule)) (λ (es : List Entry). length-map es (ruled rule))
 
     -- by a tick
     pub ticked-own : (step : Step) (rs : List ℕ) → SentTo (ticks_in n step p.spans p.marks.now rs) p.marks.now q.marks.now r s
-        → (playing_in q ≡ moved t c (ticks step.prev step.next (live t) rs)) × SentIn (rows_of (ticks step.prev step.next (live t) rs)) r s
+        → SameColumns p q × (playing_in q ≡ moved t c (ticks step.prev step.next (live t) rs)) × SentIn (rows_of (ticks step.prev step.next (live t) rs)) r s
     ticked-own step rs = sent-own (λ (es : List Entry). ticks step.prev step.next es rs) (λ (es : List Entry). length-ticks step.prev step.next es rs)

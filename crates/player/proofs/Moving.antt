@@ -26,7 +26,7 @@ use Rattle.player.specs.declared.engine.Player.{Player}
 use Rattle.player.specs.Answered.{playing_in, room_in, SameColumns}
 use Rattle.player.specs.Loops.{first_in, SentTo}
 use Rattle.player.proofs.Checks.{refused, passed, same_slices, same_player}
-use Rattle.player.proofs.Loops.{Left, same_columns, applied}
+use Rattle.player.proofs.Loops.{Left, applied}
 
 -- how many entries count
 module _ (p : Player) {n : ℕ} (en : n ≡ entries_in p.head.count (length p.spans.starts.now) (length p.spans.durations.now) (length p.marks.now)) where
@@ -57,4 +57,4 @@ module _ (p : Player) {n : ℕ} (en : n ≡ entries_in p.head.count (length p.sp
         → SameColumns p q × SameSlices r s × MovesBy o accepted (playing_in q) r.kinds.now s.kinds.now r.amounts.now s.amounts.now r.places.now s.places.now
     moves-on {c} rule {o} eo f {q} {s} l sent-to =
         let z = applied p all_own l rule sent-to in
-        (same_columns l, z.1.0, moves-sent t c rule r.kinds.now r.amounts.now r.places.now all_own o eo (passed RowsTooShort short ey f) (playing_in q) s.kinds.now s.amounts.now s.places.now z.0 z.1.1)
+        (z.0, z.2.0, moves-sent t c rule r.kinds.now r.amounts.now r.places.now all_own o eo (passed RowsTooShort short ey f) (playing_in q) s.kinds.now s.amounts.now s.places.now z.1 z.2.1)

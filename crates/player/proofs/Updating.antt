@@ -26,7 +26,7 @@ use Rattle.player.specs.Answered.{playing_in, answer_of, answer_in, ticked_to, s
 use Rattle.player.specs.Loops.{Writes, first_in, SentTo}
 use Rattle.player.proofs.Checks.{refused, passed, same_slices, same_player}
 use Rattle.player.proofs.Moving.{all_own}
-use Rattle.player.proofs.Loops.{Left, same_columns, applied}
+use Rattle.player.proofs.Loops.{Left, applied}
 use Rattle.player.proofs.Answers.{once_reach, told}
 
 -- what was checked before: n entries count, and whether the rows are too short for them, and the replies bad
@@ -75,7 +75,7 @@ module _ (p : Player) (r : Rows) (dt : Float) (rs l₀ : List ℕ) {n : ℕ} (en
         unfolding track_of
         update-stays off {q} {s} {u} eu left sent =
             let w = applied p all left Keep sent in
-            update-on (stays t dt rs eb off) (Ok u) (same_columns left, w.1.0, told eu refl refl (stayed-on t l₀ r.kinds.now r.amounts.now r.places.now l₀ s.kinds.now s.amounts.now s.places.now refl w.0 w.1.1))
+            update-on (stays t dt rs eb off) (Ok u) (w.0, w.2.0, told eu refl refl (stayed-on t l₀ r.kinds.now r.amounts.now r.places.now l₀ s.kinds.now s.amounts.now s.places.now refl w.1 w.2.1))
 
         -- it ticks, or synchronises
         module _ (on : advances p.head.clock base ≡ true) {next : Float} (en' : next ≡ next_elapsed p.head.clock dt) (x : Result Updated Refusal) {q : Player} {l : List ℕ} {s : Rows} where

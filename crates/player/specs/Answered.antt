@@ -1,5 +1,5 @@
 -- What a player's calls leave and answer, and the two courses of an update while it plays. Definitions only.
-use Rattle.std.specs.Prelude.{ℕ, ◌≡◌, Bool, List, map, length, Float, Result, Ok, Err}
+use Rattle.std.specs.Prelude.{ℕ, ◌≡◌, Bool, List, map, length, drop, Float, Result, Ok, Err}
 use Rattle.float32.specs.Helpers.{min_f}
 use Rattle.refusal.specs.declared.Refusal.{Refusal}
 use Rattle.refusal.specs.Refusal.{accepted, number, number_in}
@@ -29,11 +29,14 @@ playing_in p = track_of p.head p.spans.starts.now p.spans.durations.now p.marks.
 abbrev pub at_clock : Player → Clock → Player
 at_clock p c = record { head = with_clock_at p.head c; spans = p.spans; marks = p.marks }
 
--- a call has left q of the player p: it plays as many entries, in the same mode and columns
+-- a call has left q of the player p: it plays as many entries, in the same mode and columns; the marks are the same slice, and those
+-- behind the entries that count stay
 pub record SameColumns (p q : Player) : Type 0 where
   pub head : q.head ≡ with_clock_at p.head q.head.clock
   pub spans : q.spans ≡ p.spans
   pub marks : q.marks.ghost_name ≡ p.marks.ghost_name
+  pub len : length q.marks.now ≡ length p.marks.now
+  pub spare : let n = length (live (playing_in p)) in drop n q.marks.now ≡ drop n p.marks.now
 
 -- how many places the row slices have
 abbrev pub room_in : Rows → Room

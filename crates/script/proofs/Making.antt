@@ -7,7 +7,7 @@ use native.Mathlib.Omega.{arith}
 use borrow.Author.Tests.{ne_eqb, ltb-false}
 use lib.Dec.{eqb, ltb}
 use lib.Ieee.{Float, eq}
-use lib.ListN.{length, length-map}
+use lib.ListN.{length, drop, length-map}
 use Rattle.std.proofs.lemmas.Bool.{or_parts}
 use Rattle.float32.specs.Helpers.{zero_f, min_f}
 use Rattle.tween.specs.LoopMode.{is_once}
@@ -26,7 +26,7 @@ use Rattle.track.specs.declared.track.Track.{Track}
 use Rattle.track.specs.declared.track.Playhead.{Playhead}
 use Rattle.track.specs.Tracks.{live, track_base, rows_of}
 use Rattle.track.specs.Updates.{Advance, replies_bad, ticks, advanced, ended_at, playing}
-use Rattle.track.specs.Calls.{Room, TrackOut, short, refused_if, fitted, updated, updated_with, sent, sought_to, rested, advanced_to, track_silent, track_step}
+use Rattle.track.specs.Calls.{Room, TrackOut, short, refused_if, fitted, updated, updated_with, sent, sought_to, rested, advanced_to, track_silent, track_step, SetTimeScale, Play, Pause, Resume, Reset, Seek, SeekAbs}
 use Rattle.track.specs.Answers.{SameSlices, Answer, MovesBy}
 use Rattle.track.proofs.Ticks.{length-ticks}
 use Rattle.player.specs.declared.engine.Player.{Player}
@@ -45,6 +45,37 @@ either P false x y h k = k
 pub sent-quiet : (k : Track) (c : Clock) (rule : Rule) (r : Room) → (sent k c rule r).listed ≡ []
 unfolding sent
 sent-quiet k c rule r = either (λ (o : TrackOut). o.listed ≡ []) (short r k) _ _ refl refl
+
+module _ (t : Track) (r : Room) where
+  pub play-quiet : (track_step t (Play r)).listed ≡ []
+  unfolding track_step
+  play-quiet = sent-quiet _ _ _ _
+
+  pub reset-quiet : (track_step t (Reset r)).listed ≡ []
+  unfolding track_step
+  reset-quiet = sent-quiet _ _ _ _
+
+  pub seek-quiet : (x : Float) → (track_step t (Seek x r)).listed ≡ []
+  unfolding track_step sought_to
+  seek-quiet x = sent-quiet _ _ _ _
+
+  pub seek-abs-quiet : (x : Float) → (track_step t (SeekAbs x r)).listed ≡ []
+  unfolding track_step sought_to
+  seek-abs-quiet x = sent-quiet _ _ _ _
+
+-- the calls that set something
+module _ (t : Track) where
+  pub pause-set : track_step t Pause ≡ track_silent 0 (track_step t Pause).track
+  unfolding track_step
+  pause-set = refl
+
+  pub resume-set : track_step t Resume ≡ track_silent 0 (track_step t Resume).track
+  unfolding track_step
+  resume-set = refl
+
+  pub scale-set : (x : Float) → track_step t (SetTimeScale x) ≡ track_silent 0 (track_step t (SetTimeScale x)).track
+  unfolding track_step
+  scale-set x = refl
 
 -- ---- the answers, as calls in place leave them
 
@@ -88,9 +119,9 @@ module _ (p : Player) (r : Rows) where
       (u.0, u.1, record { refusal = e.0 ∙ ap (λ (z : Answer). z.refusal) u.2.answer; listed = e.1 ∙ ap (λ (z : Answer). z.listed) u.2.answer; track = u.2.track; list = u.2.list; rows = u.2.rows })
 
   -- a call that set the clock, or did nothing
-  pub made-silent : (l : List ℕ) {k : Track} {x : Result ℕ Refusal} {q : Player} {c : Clock} → Left p q c → held_or 0 x ≡ 0 → playing_in q ≡ k → Made (track_silent (number_in x) k) x q l l r
-  made-silent l left e track =
-      (same_columns left, same_slices r, record { refusal = refl; listed = e; track = track; list = refl; rows = record { kinds = refl; amounts = refl; places = refl } })
+  pub made-silent : (l : List ℕ) {k : Track} {x : Result ℕ Refusal} {q : Player} {c : Clock} → Left p q c → q.marks.now ≡ p.marks.now → held_or 0 x ≡ 0 → playing_in q ≡ k → Made (track_silent (number_in x) k) x q l l r
+  made-silent l left own e track =
+      (same_columns left (ap length own) (ap (drop (length (live (playing_in p)))) own), same_slices r, record { refusal = refl; listed = e; track = track; list = refl; rows = record { kinds = refl; amounts = refl; places = refl } })
 
 -- ---- which call a byte makes
 

@@ -31,7 +31,7 @@ returns-in-1 c =
     let a = c.args in
     let p = a.player.now in
     rw c.in-1.is
-    (made-silent p a.rows.now a.list.now (record { head = c.pause-player.ensures; spans = refl; marks = refl }) refl (ap (playing_at p) c.pause-player.ensures ∙ claims.pause p.head p.spans.starts.now p.spans.durations.now p.marks.now))
+    (made-silent p a.rows.now a.list.now (record { head = c.pause-player.ensures; spans = refl; marks = refl }) refl refl (ap (playing_at p) c.pause-player.ensures ∙ claims.pause p.head p.spans.starts.now p.spans.durations.now p.marks.now))
 
 pub returns-in-2 : goal.returns-in-2
 unfolding outcome_in track_step
@@ -39,7 +39,7 @@ returns-in-2 c =
     let a = c.args in
     let p = a.player.now in
     rw c.in-2.is
-    (made-silent p a.rows.now a.list.now (record { head = c.resume-player.ensures; spans = refl; marks = refl }) refl (ap (playing_at p) c.resume-player.ensures ∙ claims.resume p.head p.spans.starts.now p.spans.durations.now p.marks.now))
+    (made-silent p a.rows.now a.list.now (record { head = c.resume-player.ensures; spans = refl; marks = refl }) refl refl (ap (playing_at p) c.resume-player.ensures ∙ claims.resume p.head p.spans.starts.now p.spans.durations.now p.marks.now))
 
 pub returns-in_err-reset-in-3 : goal.returns-in_err-reset-in-3
 unfolding outcome_in track_step sought_to
@@ -107,11 +107,11 @@ returns-in-7 c =
     let a = c.args in
     let p = a.player.now in
     rw c.in-7.is
-    (made-silent p a.rows.now a.list.now (record { head = c.set_time_scale-player.ensures; spans = refl; marks = refl }) refl (ap (playing_at p) c.set_time_scale-player.ensures ∙ claims.scale p.head p.spans.starts.now p.spans.durations.now p.marks.now a.x))
+    (made-silent p a.rows.now a.list.now (record { head = c.set_time_scale-player.ensures; spans = refl; marks = refl }) refl refl (ap (playing_at p) c.set_time_scale-player.ensures ∙ claims.scale p.head p.spans.starts.now p.spans.durations.now p.marks.now a.x))
 
 pub returns-in_default : goal.returns-in_default
 returns-in_default c =
     let a = c.args in
     let p = a.player.now in
     rw (outcome-unknown a.replies.now (length a.list.now) (room_in a.rows.now) (playing_in p) a.byte a.x (omega arith))
-    (made-silent p a.rows.now a.list.now {x = Err BadCall} (record { head = refl; spans = refl; marks = refl }) refl refl)
+    (made-silent p a.rows.now a.list.now {x = Err BadCall} (record { head = refl; spans = refl; marks = refl }) refl refl refl)
