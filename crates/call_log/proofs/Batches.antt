@@ -1,6 +1,6 @@
 -- Batches of calls: one call more, and how much fuel is enough.
 use Prim.Native.Nat.{ℕ, zero, suc, ◌+◌, ◌-◌, ◌%◌, ◌≤◌, ◌<◌, min}
-use mathlib.Core.Path.{◌≡◌, refl, sym, ap, ◌∙◌}
+use mathlib.Core.Path.{◌≡◌, refl, sym, ap, subst, ◌∙◌}
 use mathlib.Core.Bool.{Bool, true, false, cond, ◌&&◌}
 use mathlib.Core.List.{List, [], ◌∷◌, ◌++◌, append_assoc, append-nil}
 use native.Mathlib.Nat.{not-suc-le-zero, add_assoc, add-zero, zero-add, sub-zero}
@@ -10,7 +10,9 @@ use lib.Dec.{leb}
 use lib.ListN.{length, take, drop, length-take, length-drop}
 use Rattle.std.specs.Prelude.{Option, None, Some}
 use Rattle.track.specs.declared.track.Playhead.{Playhead}
-use Rattle.track.specs.Columns.{with_clock_at}
+use Rattle.track.specs.Tracks.{live}
+use Rattle.track.specs.Columns.{with_clock_at, entries_in}
+use Rattle.track.proofs.Columns.{counted as entries-counted}
 use Rattle.player.specs.declared.engine.Player.{Player}
 use Rattle.player.specs.Answered.{playing_in, SameColumns}
 use Rattle.call_log.specs.declared.Log.{Log}
@@ -164,9 +166,23 @@ pub record SoFar (ended : Bool) (log₀ : Log) (bytes old out : List ℕ) (log :
   pub wrote : Wrote text 0 old out len
   pub whole : batch_of ended (Some log₀) bytes (length old) ≡ call_then used text (batch_of ended (Some log) rest (length old - len))
 
+-- as many entries count after it
+same_count : {p q : Player} → SameColumns p q → length (live (playing_in q)) ≡ length (live (playing_in p))
+same_count {p} {q} k =
+    let n = entries_in q.head.count (length q.spans.starts.now) (length q.spans.durations.now) (length q.marks.now) in
+    let e : n ≡ entries_in p.head.count (length p.spans.starts.now) (length p.spans.durations.now) (length p.marks.now) = rw (k.head, k.spans, k.len) in
+    sym (entries-counted q.head q.spans.starts.now q.spans.durations.now q.marks.now refl) ∙ entries-counted p.head p.spans.starts.now p.spans.durations.now p.marks.now e
+
 -- the same columns, twice
 pub then_columns : {p q r : Player} → SameColumns p q → SameColumns q r → SameColumns p r
-then_columns {r = r} a b = record { head = b.head ∙ ap (λ (h : Playhead). with_clock_at h r.head.clock) a.head; spans = b.spans ∙ a.spans; marks = b.marks ∙ a.marks }
+then_columns {p} {q} {r} a b =
+    record {
+      head = b.head ∙ ap (λ (h : Playhead). with_clock_at h r.head.clock) a.head;
+      spans = b.spans ∙ a.spans;
+      marks = b.marks ∙ a.marks;
+      len = b.len ∙ a.len;
+      spare = subst (λ (n : ℕ). drop n r.marks.now ≡ drop n q.marks.now) (same_count a) b.spare ∙ a.spare;
+    }
 
 module _ (ended : Bool) (log₀ : Log) (bytes old : List ℕ) where
   -- nothing is written

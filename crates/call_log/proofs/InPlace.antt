@@ -89,14 +89,14 @@ module _ (k q : Track) (s : Sized (trimmed k) q) where
 -- ---- logs
 
 -- a log of the live entries, as one of the whole track k
-abbrev back_log : Track → Log → Log
+abbrev pub back_log : Track → Log → Log
 back_log k log = record { number = log.number; track = put_back k log.track }
 
 abbrev back_in : Track → Option Log → Option Log
 back_in k None = None
 back_in k (Some log) = Some (back_log k log)
 
-abbrev back_calls : Track → Calls → Calls
+abbrev pub back_calls : Track → Calls → Calls
 back_calls k c = record { used = c.used; text = c.text; log = back_in k c.log }
 
 -- the log after a call, where there is one
@@ -136,7 +136,7 @@ module _ (k : Track) where
       (cond-calls (is_next ended bytes room) _ _)
 
 -- a batch on the whole track
-batch_back : (ended : Bool) (log : Log) (bytes : List ℕ) (room : ℕ)
+pub batch_back : (ended : Bool) (log : Log) (bytes : List ℕ) (room : ℕ)
     → batch_of ended (Some log) bytes room ≡ back_calls log.track (batch_of ended (Some (record { number = log.number; track = trimmed log.track })) bytes room)
 batch_back ended log bytes room =
     ap (λ (t : Track). batch_of ended (Some (record { number = log.number; track = t })) bytes room) (sym (own_back log.track))

@@ -58,7 +58,7 @@ module _ (p : Player) (rest : List ℕ) where
   makes_none list e =
       let o : track_silent bad_call (playing_in p) ≡ outcome_at (playing_in p) rest = sym e in
       record {
-        columns = record { head = refl; spans = refl; marks = refl };
+        columns = record { head = refl; spans = refl; marks = refl; len = refl; spare = refl };
         refusal = ap (λ (x : TrackOut). x.refusal) o;
         few = omega arith;
         listed = ap (λ (x : TrackOut). x.listed) o;

@@ -64,10 +64,10 @@ struct Ran {
     len: usize,
 }
 
-// What is lent to each call: the list, and the row slices, which no line shows.
+// The row slices that are lent to each call, which no line shows. The list, which is read, lies apart: beside it each row would be
+// computed and stored for nothing.
 #[derive(Drop)]
-struct Lent {
-    list: [u8; LIST],
+struct LentRows {
     kinds: [u8; MAX_ENTRIES],
     amounts: [f32; MAX_ENTRIES],
     places: [f32; MAX_ENTRIES],
@@ -186,8 +186,8 @@ fn run(
 ) -> Ran
     ensures { RunsTo (batch_of ended (Some (log_in number player.old)) bytes.now (length out.old)) result player.old player.new out.old out.new }
 {
-    let mut lent = Lent {
-        list: [0; LIST],
+    let mut list = [0; LIST];
+    let mut lent = LentRows {
         kinds: [0; MAX_ENTRIES],
         amounts: [0.0; MAX_ENTRIES],
         places: [0.0; MAX_ENTRIES],
@@ -201,7 +201,7 @@ fn run(
             break;
         }
         number = number.saturating_add(1);
-        len += next(number, player, &mut lent, call, out, len);
+        len += next(number, player, &mut list, &mut lent, call, out, len);
         used += call.len();
     }
     Ran { number, used, len }
@@ -218,7 +218,8 @@ fn least_bytes(ended: bool) -> usize
 fn next(
     number: usize,
     player: &mut Player<'_, '_>,
-    lent: &mut Lent,
+    list: &mut [u8; LIST],
+    lent: &mut LentRows,
     rest: &[u8],
     out: &mut [u8],
     at: usize,
@@ -226,15 +227,20 @@ fn next(
     requires { at + line_size ≤ length out.old }
     ensures { Logs number player.old rest.now result player.new at out.old out.new }
 {
-    let made = make_at(player, rest, lent);
+    let made = make_at(player, rest, list, lent);
     let refusal = refusal::number_in(&made);
-    let listed = &lent.list[..made.unwrap_or(0)];
+    let listed = &list[..made.unwrap_or(0)];
     lines::called(out, at, number, player.head.clock, refusal, listed) - at
 }
 
 // Makes the call at the front of the script. Fewer bytes than a call has are refused. Leaves always reply 1.
-fn make_at(player: &mut Player<'_, '_>, rest: &[u8], lent: &mut Lent) -> Result<usize, Refusal>
-    ensures { Makes player.old rest.now result player.new lent.new.list }
+fn make_at(
+    player: &mut Player<'_, '_>,
+    rest: &[u8],
+    list: &mut [u8; LIST],
+    lent: &mut LentRows,
+) -> Result<usize, Refusal>
+    ensures { Makes player.old rest.now result player.new list.new }
 {
     let call = call_at(rest).ok_or(Refusal::BadCall)?;
     let mut rows = Rows {
@@ -247,7 +253,7 @@ fn make_at(player: &mut Player<'_, '_>, rest: &[u8], lent: &mut Lent) -> Result<
         call.byte,
         call.x,
         &[1; MAX_ENTRIES],
-        &mut lent.list,
+        list,
         &mut rows,
     )
 }
