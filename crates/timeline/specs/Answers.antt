@@ -1,18 +1,19 @@
 -- What a call on a timeline answers, and what it leaves in the slices lent to it, by its outcome. A contract cites `Adds`, `Moves`, `Updates` or `Shows`.
 use denote.MutBor.{MutBor}
-use Rattle.std.specs.Prelude.{ℕ, ◌≡◌, List, length, Float, Result, Ok, Err}
+use Rattle.std.specs.Prelude.{ℕ, ◌≡◌, Bool, List, length, Float, Result, Ok, Err}
 use Rattle.refusal.specs.declared.Refusal.{Refusal}
 use Rattle.refusal.specs.Refusal.{number, number_in, held_or}
 use Rattle.steps.specs.Slices.{over}
 use Rattle.track.specs.declared.rows.Rows.{Rows}
-use Rattle.track.specs.Tracks.{Sent}
+use Rattle.clock.specs.declared.Clock.{Clock}
+use Rattle.track.specs.Tracks.{with_marks, Sent}
 use Rattle.track.specs.Calls.{Room, TrackCall, Update, Preview}
 use Rattle.track.specs.Answers.{Lent, LentMut, LentRows, SameSlices, Answer, refused_by, lent_room}
 use Rattle.player.specs.declared.engine.Player.{Player}
 use Rattle.player.specs.declared.engine.Updated.{Updated}
 use Rattle.player.specs.Answered.{answer_of, MovesInPlace}
 use Rattle.timeline.specs.declared.timeline.Timeline.{Timeline}
-use Rattle.timeline.specs.Calls.{Call, On, Out, step}
+use Rattle.timeline.specs.Calls.{Call, On, Out, with_track, step}
 
 -- The call with the outcome o, made on the timeline t, answers r: its refusal, or the timeline that it leaves. "panel and builder are
 -- unchanged": a refused call leaves t.
@@ -62,9 +63,18 @@ MovesOn t call r rows =
 abbrev pub Course : Type 1
 Course = MutBor Player → MutBor Rows → Result Unit Refusal → MutBor Player → MutBor Rows → Type 0
 
+-- it leaves the player with the slice of marks that it had
+abbrev pub KeepsMarks : Course → Type 0
+KeepsMarks post = (p : MutBor Player) (r : MutBor Rows) (x : Result Unit Refusal) (q : MutBor Player) (s : MutBor Rows) → post p r x q s → q.now.marks.ghost_name ≡ p.now.marks.ghost_name
+
 -- it is this call of the player
 abbrev pub Makes : Course → (Room → TrackCall) → Type 0
 Makes post call = (p : MutBor Player) (r : MutBor Rows) (x : Result Unit Refusal) (q : MutBor Player) (s : MutBor Rows) → post p r x q s → MovesInPlace p.now call x q.now r.now s.now
+
+-- what a call answers that leaves a clock and these marks in the columns of the timeline's track, or refuses
+abbrev pub left_by : Timeline → Result Clock Refusal → List Bool → Result Timeline Refusal
+left_by t (Ok clock) marks = Ok (with_track t (with_marks t.track clock marks))
+left_by t (Err r) marks = Err r
 
 abbrev pub Moves : Timeline → (Room → TrackCall) → Result Timeline Refusal → LentRows → Type 0
 Moves t call = MovesOn t (λ (room : Room). On (call room))

@@ -10,17 +10,18 @@ ghost use Rattle.track.specs.Tracks.{live, with_marks, track_base, track_run, pr
 ghost use Rattle.track.specs.Calls.{Room, TrackCall, Looping, SetTimeScale, Play, Pause, Resume, Reset, Seek, SeekAbs, with_clock};
 ghost use Rattle.timeline.specs.Placements.{empty, live_labels, start_found, named_start, resolve_start, grown};
 ghost use Rattle.timeline.specs.Calls.{Add, AddBoxed, AddAtLabel, On, added_at, with_track, step};
-ghost use Rattle.timeline.specs.Answers.{Adds, Makes, Moves, Updates, Shows};
+ghost use Rattle.timeline.specs.Answers.{Adds, KeepsMarks, Makes, Moves, Updates, Shows, left_by};
 ghost use Rattle.timeline.specs.Introspections.{introspected};
 
 use crate::introspection::{AnimationIntrospection, AnimationKind};
 use clock::{Clock, TimelineState};
+use completions::SpanArrays;
 use label::{Label, MAX_LABEL};
 use player::engine::{Player, Updated, preview};
 use refusal::Refusal;
 use steps::{Entry, MAX_ENTRIES};
 use track::rows::Rows;
-use track::track::{Columns, Secs, Share, Track};
+use track::track::{Secs, Share, Track};
 use tween::Loop;
 
 // Where an entry starts. The label case carries the number of an entry, and means that entry's label. A type of its own: what a sheet
@@ -109,7 +110,9 @@ impl Timeline {
     pub fn play(self, rows: &mut Rows<'_>) -> Result<Timeline, Refusal>
         ensures { Moves self Play result rows }
     {
-        self.moved(rows, |player, rows| player.play(rows))
+        let mut marks = [false; MAX_ENTRIES];
+        let clock = self.moved(&mut marks, rows, |player, rows| player.play(rows))?;
+        Ok(self.left(clock, &marks))
     }
 
     // Pauses what is Playing.
@@ -130,21 +133,27 @@ impl Timeline {
     pub fn reset(self, rows: &mut Rows<'_>) -> Result<Timeline, Refusal>
         ensures { Moves self Reset result rows }
     {
-        self.moved(rows, |player, rows| player.reset(rows))
+        let mut marks = [false; MAX_ENTRIES];
+        let clock = self.moved(&mut marks, rows, |player, rows| player.reset(rows))?;
+        Ok(self.left(clock, &marks))
     }
 
     // To a share of the run; of an infinite run, to a share of the base.
     pub fn seek(self, to: Share, rows: &mut Rows<'_>) -> Result<Timeline, Refusal>
         ensures { Moves self (Seek to.0) result rows }
     {
-        self.moved(rows, |player, rows| player.seek(to, rows))
+        let mut marks = [false; MAX_ENTRIES];
+        let clock = self.moved(&mut marks, rows, |player, rows| player.seek(to, rows))?;
+        Ok(self.left(clock, &marks))
     }
 
     // To a second of the run.
     pub fn seek_abs(self, to: Secs, rows: &mut Rows<'_>) -> Result<Timeline, Refusal>
         ensures { Moves self (SeekAbs to.0) result rows }
     {
-        self.moved(rows, |player, rows| player.seek_abs(to, rows))
+        let mut marks = [false; MAX_ENTRIES];
+        let clock = self.moved(&mut marks, rows, |player, rows| player.seek_abs(to, rows))?;
+        Ok(self.left(clock, &marks))
     }
 
     // The base: where the last entry ends.
@@ -280,19 +289,32 @@ impl Timeline {
         })
     }
 
-    // A call that moves what plays, made by a player of the track's columns.
+    // A call that moves what plays, made by a player of the track's columns: the clock that it leaves, and the marks. What is handed out is
+    // small: a timeline that goes through this answer, too, is copied once more.
     fn moved<F: FnOnce(&mut Player<'_, '_>, &mut Rows<'_>) -> Result<(), Refusal>>(
         self,
+        marks: &mut [bool; MAX_ENTRIES],
         rows: &mut Rows<'_>,
         make: F,
-    ) -> Result<Timeline, Refusal>
+    ) -> Result<Clock, Refusal>
         requires callable { F.IsAlwaysCallable make }
-        ensures { (call : Room → TrackCall) → Makes (F.post make) call → Moves self call result rows }
+        requires kept { KeepsMarks (F.post make) }
+        ensures { (call : Room → TrackCall) → Makes (F.post make) call → Moves self call (left_by self result marks.new) rows }
     {
-        let columns = &mut Columns::of(self.track);
-        let mut player = Player::of(columns);
+        let mut held = SpanArrays {
+            starts: [0.0; MAX_ENTRIES],
+            durations: [0.0; MAX_ENTRIES],
+        };
+        let head = self
+            .track
+            .lay_out(&mut held.starts, &mut held.durations, marks);
+        let mut player = Player {
+            head,
+            spans: held.spans(),
+            marks,
+        };
         make(&mut player, rows)?;
-        Ok(self.left(player.head.clock, player.marks))
+        Ok(player.head.clock)
     }
 
     // What is left of it after a call in columns that its track was laid out in: the clock and the marks are those of there.
@@ -320,8 +342,19 @@ impl Timeline {
     ) -> Result<(Updated, Timeline), Refusal>
         ensures { Updates self dt replies result list rows }
     {
-        let columns = &mut Columns::of(self.track);
-        let mut player = Player::of(columns);
+        let mut held = SpanArrays {
+            starts: [0.0; MAX_ENTRIES],
+            durations: [0.0; MAX_ENTRIES],
+        };
+        let mut marks = [false; MAX_ENTRIES];
+        let head = self
+            .track
+            .lay_out(&mut held.starts, &mut held.durations, &mut marks);
+        let mut player = Player {
+            head,
+            spans: held.spans(),
+            marks: &mut marks,
+        };
         let made = player.update(dt, replies, list, rows)?;
         Ok((made, self.left(player.head.clock, player.marks)))
     }
@@ -330,8 +363,15 @@ impl Timeline {
     pub fn preview(self, dt: f32, rows: &mut Rows<'_>) -> Result<(), Refusal>
         ensures { Shows self dt result rows }
     {
-        let c = Columns::of(self.track);
-        preview(c.head, dt, c.held.spans(), &c.marks, rows)
+        let mut held = SpanArrays {
+            starts: [0.0; MAX_ENTRIES],
+            durations: [0.0; MAX_ENTRIES],
+        };
+        let mut marks = [false; MAX_ENTRIES];
+        let head = self
+            .track
+            .lay_out(&mut held.starts, &mut held.durations, &mut marks);
+        preview(head, dt, held.spans(), &marks, rows)
     }
 
     // What is reported of it: its duration is the run.

@@ -1,8 +1,8 @@
 -- Entries laid out in columns, and gathered from them.
 use Prim.Native.Nat.{ℕ, ◌+◌, ◌<◌, ◌≤◌, min}
-use mathlib.Core.Path.{◌≡◌, refl, sym, ap, ◌∙◌}
+use mathlib.Core.Path.{◌≡◌, refl, sym, ap, subst, ◌∙◌}
 use mathlib.Core.Bool.{Bool, false}
-use mathlib.Core.List.{List, [], ◌∷◌, ◌++◌, map}
+use mathlib.Core.List.{List, [], ◌∷◌, ◌++◌, map, foldl}
 use native.Mathlib.Omega.{arith}
 use lib.ListN.{length, get_or, set, take, length-map, length-set, length-take}
 use lib.Seq.{take_all, take-length}
@@ -12,7 +12,7 @@ use Rattle.steps.specs.Slices.{over}
 use Rattle.steps.specs.Times.{max_entries, base_of}
 use Rattle.std.proofs.lemmas.List.{get_or-map}
 use Rattle.steps.proofs.Lists.{front, front-more, front-all, part_at}
-use Rattle.completions.specs.Columns.{most_entries}
+use Rattle.completions.specs.Columns.{most_entries, ends_in}
 use Rattle.clock.specs.declared.Clock.{Clock}
 use Rattle.track.specs.declared.track.Track.{Track}
 use Rattle.track.specs.declared.track.Playhead.{Playhead}
@@ -21,7 +21,8 @@ use Rattle.track.specs.Columns.{entry_of, first_of, track_of, with_clock_at, tri
 use Rattle.track.specs.Answers.{LaysOut}
 use Rattle.track.specs.Claims.{put_back}
 use Rattle.track.proofs.Marks.{no_entry}
-use Rattle.track.proofs.Columns.{roomy, own, first_at}
+use Rattle.track.proofs.Columns.{roomy, own, first_at, based}
+use Rattle.float32.specs.Helpers.{zero_f, max_f}
 
 -- ---- one column, as the loop fills it
 
@@ -77,6 +78,13 @@ laid k es h s₀ s d₀ d m₀ m few e₀ e₁ e₂ e₃ =
 pub all_laid : (k : Track) → length k.entries ≡ max_entries → {n : ℕ} → n ≡ max_entries → {q : Track} → q ≡ with_only k (take n (live k)) → q ≡ trimmed k
 all_laid k l {n} en e = e ∙ ap (with_only k) (take_all n (live k) (omega (arith, l, en, length-take k.count k.entries)))
 
+-- columns of as many places as an array has take every live entry
+pub laid-all : {k : Track} {h : Playhead} {s₀ s d₀ d : List Float} {m₀ m : List Bool} → length s₀ ≡ max_entries → length d₀ ≡ max_entries → length m₀ ≡ max_entries
+    → LaysOut k (take (min (length s₀) (min (length d₀) (length m₀))) (live k)) h s₀ s d₀ d m₀ m → LaysOut k (take max_entries (live k)) h s₀ s d₀ d m₀ m
+laid-all {k} {h} {s₀} {s} {d₀} {d} {m₀} {m} es ed em w =
+    let e : min (length s₀) (min (length d₀) (length m₀)) ≡ max_entries = omega (arith, es, ed, em) in
+    subst (λ (n : ℕ). LaysOut k (take n (live k)) h s₀ s d₀ d m₀ m) e w
+
 -- what is asked in columns that take all of the track's entries is asked of the trimmed track
 pub asked : {A : Type 0} (f : Track → A) (k : Track) → length k.entries ≡ max_entries → {h : Playhead} {s₀ s d₀ d : List Float} {m₀ m : List Bool} → LaysOut k (take max_entries (live k)) h s₀ s d₀ d m₀ m
     → {ss ds : List Float} → ss ≡ s → ds ≡ d → {x : A} → x ≡ f (track_of h ss ds m) → x ≡ f (trimmed k)
@@ -85,6 +93,15 @@ asked f k l w es ed e = (rw (es, ed) at e) ∙ ap f (all_laid k l refl w.track)
 -- and its base is that of the track
 pub base-trimmed : (k : Track) → track_base (trimmed k) ≡ track_base k
 base-trimmed k = ap base_of (take-length (live k))
+
+-- the base of the columns is that of the track, where they take all of its entries
+pub laid_base : (k : Track) (room : ℕ) {h : Playhead} {s₀ s d₀ d : List Float} {m₀ m : List Bool} {base : Float} → length (live k) ≤ room
+    → LaysOut k (take room (live k)) h s₀ s d₀ d m₀ m → base ≡ foldl max_f zero_f (ends_in h.count s d) → base ≡ track_base k
+laid_base k room {h = h} {s = s} {d = d} {m = m} l w e =
+    let es = take room (live k) in
+    let all : h.count ≡ length (live (track_of h s d m)) =
+    ap (λ (x : Playhead). x.count) w.head ∙ sym (ap (λ (x : Track). length (live x)) w.track ∙ ap length (take-length es)) in
+    based h s d m h.count all e ∙ ap track_base w.track ∙ ap base_of (take-length es ∙ take_all room (live k) l)
 
 -- what a call leaves in the columns, put back into the track that was laid out there: its clock and its marks
 pub marks-back : (k : Track) (room : ℕ) {h : Playhead} {s₀ s d₀ d : List Float} {m₀ m : List Bool} → length (live k) ≤ room → length (live k) ≤ most_entries

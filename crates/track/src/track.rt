@@ -227,24 +227,38 @@ impl Track {
     pub fn duration(self) -> f32
         ensures { result ≡ track_base self }
     {
-        let c = Columns::of(self);
-        c.head.duration(c.held.spans(), &c.marks)
+        let mut held = SpanArrays {
+            starts: [0.0; MAX_ENTRIES],
+            durations: [0.0; MAX_ENTRIES],
+        };
+        let marks = &mut [false; MAX_ENTRIES];
+        let head = self.lay_out(&mut held.starts, &mut held.durations, marks);
+        head.duration(held.spans(), marks)
+    }
+
+    // How its entries play.
+    fn run(self) -> Run
+        ensures { (result.mode ≡ self.looping) × (result.base ≡ track_base self) }
+    {
+        Run {
+            mode: self.looping,
+            base: self.duration(),
+        }
     }
 
     // The run: `playback_duration`.
     pub fn playback_duration(self) -> f32
         ensures { result ≡ track_run self }
     {
-        let c = Columns::of(self);
-        c.head.playback_duration(c.held.spans(), &c.marks)
+        self.run().total()
     }
 
     // `progress`
     pub fn progress(self) -> f32
         ensures { result ≡ progress_of self }
     {
-        let c = Columns::of(self);
-        c.head.progress(c.held.spans(), &c.marks)
+        let run = self.run();
+        progress_in(run, run.total(), self.clock.elapsed)
     }
 
     // The entries that count.

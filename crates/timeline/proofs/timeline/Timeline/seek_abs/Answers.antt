@@ -1,7 +1,16 @@
 -- `seek_abs` is the step that `SeekAbs` says.
-use Rattle.std.proofs.Common.{rules}
+use mathlib.Core.Path.{◌≡◌}
+use Rattle.std.proofs.Common.{rules, Ok, Err}
 use Rattle.track.specs.Calls.{SeekAbs}
 use Rattle.timeline.proofs.timeline.Timeline.seek_abs.Goals as goal
 
+pub returns-in_err-clock : goal.returns-in_err-clock
+returns-in_err-clock c =
+    let why : c.moved.result ≡ Err c.in_err-clock.field-0.0 = search rules in
+    let answer : c.from_residual.result ≡ Err c.in_err-clock.field-0.0 = search rules in
+    rw answer (rw why at c.moved.ensures (SeekAbs c.args.to.0) (λ p r x q s post. search rules))
+
 pub returns : goal.returns
-returns c = c.moved.ensures (SeekAbs c.args.to.0) (λ p r x q s post. search rules)
+returns c =
+    let why : c.moved.result ≡ Ok c.in_ok-clock.clock = search rules in
+    rw c.left.ensures (rw why at c.moved.ensures (SeekAbs c.args.to.0) (λ p r x q s post. search rules))

@@ -1,10 +1,11 @@
 -- `update` is the step that `Update` says.
-use mathlib.Core.Path.{◌≡◌}
+use mathlib.Core.Path.{◌≡◌, refl}
 use Rattle.std.proofs.Common.{rules, Ok, Err}
 use lib.ListN.{length}
 use Rattle.steps.specs.Times.{max_entries}
 use Rattle.track.specs.Calls.{Update}
-use Rattle.timeline.proofs.Doors.{plays-all, door-updates, door-stays}
+use Rattle.track.proofs.Laid.{laid-all}
+use Rattle.timeline.proofs.Doors.{seated, door-updates, door-stays}
 use Rattle.timeline.proofs.timeline.Timeline.update.Goals as goal
 
 pub returns-in_err-made : goal.returns-in_err-made
@@ -15,7 +16,7 @@ returns-in_err-made c =
     let why : c.update.result ≡ Err c.in_err-made.field-0.0 = search rules in
     let answer : c.from_residual.result ≡ Err c.in_err-made.field-0.0 = search rules in
     let x = c.update.ensures in
-    (x.1, rw answer (door-stays t (Update _ _ _ _) (plays-all t long c.of.ensures c.of-player.result c.of-player.ensures) (rw why at x.2)))
+    (x.1, rw answer (door-stays t (Update _ _ _ _) (seated t long (laid-all refl refl refl c.lay_out-head.ensures) c.spans.ensures.0 c.spans.ensures.1) (rw why at x.2)))
 
 pub returns : goal.returns
 returns c =
@@ -24,4 +25,4 @@ returns c =
     let long : length t.track.entries ≡ max_entries = search rules in
     let passes : c.update.result ≡ Ok c.in_ok-made.made = search rules in
     let x = c.update.ensures in
-    (x.1, door-updates t long (Update _ _ _ _) c.of.ensures _ _ c.of-player.ensures x.0 c.left.ensures (rw passes at x.2))
+    (x.1, door-updates t long (Update _ _ _ _) (laid-all refl refl refl c.lay_out-head.ensures) _ _ (refl, c.spans.ensures.0, c.spans.ensures.1, refl) x.0 c.left.ensures (rw passes at x.2))
