@@ -1,4 +1,4 @@
-// The calls on a `Timeline`, by value: each from one place, and its answer is taken at once.
+// The calls on a `Timeline`, by value: each but `play` from one place, and its answer is taken at once.
 use crate::jobs::{Job, share};
 use crate::rows::{Lent, Room};
 use timeline::timeline::Timeline;
@@ -24,8 +24,8 @@ fn played(t: Timeline, rows: &mut Rows<'_>) -> Timeline {
     t.play(rows).unwrap_or(t)
 }
 
-// Seeks to thousandths of the base. It is no loop with `seeks`, by a closure: tried and slower, by 1,220 instructions a call, since the
-// timeline is copied once more.
+// Seeks to thousandths of the base. It is no loop with `seeks`, by a closure: tried and slower, since the timeline is copied once
+// more.
 fn seeks_abs(from: Timeline, base: f32, turns: u32, rows: &mut Rows<'_>) -> Timeline {
     let mut t = from;
     for turn in 0..turns {
@@ -47,16 +47,18 @@ fn seeks(from: Timeline, turns: u32, rows: &mut Rows<'_>) -> Timeline {
     t
 }
 
-// Updates, and `play` wherever the run ends. They may be refused by 5.
+// Updates, and `play` wherever the run ends. They may be refused by 5. What an answer holds is taken at once, and not by `played`: an
+// `if` whose arms are two timelines, and `unwrap_or`, copy each once more.
 fn updates(from: Timeline, dt: f32, turns: u32, lent: &mut Lent<'_>) -> Timeline {
     let mut t = from;
     for _ in 0..turns {
         if let Ok((u, left)) = t.update(dt, lent.replies, lent.list, &mut lent.rows) {
-            t = if u.completed {
-                played(left, &mut lent.rows)
-            } else {
-                left
-            };
+            t = left;
+            if u.completed {
+                if let Ok(again) = t.play(&mut lent.rows) {
+                    t = again;
+                }
+            }
         }
     }
     t
