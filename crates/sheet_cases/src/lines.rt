@@ -110,7 +110,7 @@ fn written(sink: &mut Sink, sheet: &[u8], d: Description, size: usize)
     let mut room = [OLD; SHEET];
     let answer = sheet_format::write(d, &mut room[..size]);
     let len = answer.unwrap_or(0);
-    let (bytes, rest) = room.split_at(len.min(SHEET));
+    let (bytes, rest) = room[..size].split_at(len.min(size));
     sink.bytes(b"  write");
     sink.number(b' ', usize::from(number_in(&answer)));
     sink.number(b' ', len);

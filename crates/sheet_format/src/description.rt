@@ -95,9 +95,14 @@ pub struct Described {
 pub fn describe(sheet: &[u8]) -> Described
     ensures { numbered result ≡ described_by sheet.now }
 {
-    let read = Description::read(sheet);
-    Described {
-        refusal: read.err(),
-        description: read.unwrap_or(Description::empty()),
+    match Description::read(sheet) {
+        Ok(description) => Described {
+            refusal: None,
+            description,
+        },
+        Err(refusal) => Described {
+            refusal: Some(refusal),
+            description: Description::empty(),
+        },
     }
 }
