@@ -2,6 +2,8 @@
 // line for each entry. Where the text is not whole, standard error has a line that says why.
 #![tactic(auto)]
 
+ghost use Rattle.std.specs.Prelude.{◌≤◌, length, IfOk};
+
 use caption::finder::Caption;
 use caption::{caption, check_list, find_caption};
 use escape::escape;
@@ -71,8 +73,7 @@ impl<'a> Venue<'a> {
         list: &'a mut [u8; LIST],
         sheet: &'a mut [u8; SHEET],
     ) -> io::Result<Venue<'a>> {
-        let mut file = fs::open(rt, LIST_FILE)?;
-        let list_len = read_full(&mut file, list).whole()?;
+        let list_len = read_list(rt, list)?;
         let sheet_len = read_full(&mut rt.stdin(), sheet).whole()?;
         Ok(Venue {
             list: &list[..list_len],
@@ -104,6 +105,14 @@ impl<'a> Venue<'a> {
         }
         Ok(())
     }
+}
+
+// Reads the list, and closes its file: where standard input is closed, the file has its descriptor, and must not be read as the sheet.
+fn read_list(rt: &HostRuntime, list: &mut [u8; LIST]) -> io::Result<usize>
+    ensures { IfOk result (λ n. n ≤ length list.new) }
+{
+    let mut file = fs::open(rt, LIST_FILE)?;
+    read_full(&mut file, list).whole()
 }
 
 // `number source at len text`; the line of an empty text ends after its length.
