@@ -4,6 +4,8 @@
 
 mod unread;
 
+ghost use Rattle.std.specs.Prelude.{◌≤◌, length, IfOk};
+
 use call_log::{LINE, Log, MAX_SHEET};
 use refusal::Refusal;
 use std::io;
@@ -47,7 +49,9 @@ fn door_log(stdin: &mut Stdin, stdout: Stdout) -> Result<(), NotWhole> {
 }
 
 // Reads the two bytes that say how long the sheet is, and the sheet, or as much as there is.
-fn read_front<'a>(stdin: &mut Stdin, room: &'a mut [u8; FRONT]) -> io::Result<&'a [u8]> {
+fn read_front<'a>(stdin: &mut Stdin, room: &'a mut [u8; FRONT]) -> io::Result<&'a [u8]>
+    ensures { IfOk result (λ bytes. length bytes.now ≤ FRONT) }
+{
     let head = read_full(stdin, &mut room[..2]).whole()?;
     let len = call_log::sheet_len(&room[..head])
         .unwrap_or(0)

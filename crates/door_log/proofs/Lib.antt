@@ -1,0 +1,2 @@
+-- What a reading adds.
+pub mod Reading
