@@ -24,7 +24,7 @@ pub enum Form {
 }
 
 // Standard output, what is printed, the bytes that are kept back, and the digest of what was taken before.
-#[derive(Drop)]
+#[derive(Clone, Copy)]
 pub struct Sink {
     stdout: Stdout,
     form: Form,

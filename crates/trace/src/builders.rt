@@ -1,17 +1,16 @@
 // The builders: what they build is what plays next.
+use case_io::text::Sink;
 use group::group::AnimationGroup;
 use group::sequence::Sequence;
 use group::stagger::stagger;
 use refusal::Refusal;
 use trace_places::run::Run;
-use trace_read::{Builder, Cursor, Cut, Item, ROWS};
-
-// Items of which there are more than a byte counts.
-const ITEMS: usize = 256;
+use trace_read::{Builder, Cursor, Cut, ITEMS, Item, ROWS};
 
 // Stagger, and a group's parallel, sequence and stagger.
 pub(crate) fn building(
-    run: &mut Run<'_>,
+    run: &mut Run,
+    sink: &mut Sink,
     cursor: &mut Cursor<'_>,
     how: Builder,
 ) -> Result<(), Cut> {
@@ -23,13 +22,18 @@ pub(crate) fn building(
         Builder::GroupSequence => AnimationGroup::sequence(durations).timeline(),
         Builder::GroupStagger(pattern) => AnimationGroup::stagger(durations, pattern).timeline(),
     };
-    run.replace(built.panel, built.refusal);
-    trace_lines::entries(run.sink, &run.timeline);
+    run.replace(sink, built.panel, built.refusal);
+    trace_lines::entries(sink, &run.timeline);
     Ok(())
 }
 
 // Sequence, of n items. Of each its refusal is shown, and the cursor after it: they are kept, since the call's line comes first.
-pub(crate) fn sequencing(run: &mut Run<'_>, cursor: &mut Cursor<'_>, n: u8) -> Result<(), Cut> {
+pub(crate) fn sequencing(
+    run: &mut Run,
+    sink: &mut Sink,
+    cursor: &mut Cursor<'_>,
+    n: u8,
+) -> Result<(), Cut> {
     let mut sequence = Sequence::new();
     let mut items = [(None, 0.0); ITEMS];
     let n = usize::from(n);
@@ -38,9 +42,9 @@ pub(crate) fn sequencing(run: &mut Run<'_>, cursor: &mut Cursor<'_>, n: u8) -> R
         sequence = answer.unwrap_or(sequence);
         *left = (answer.err(), sequence.cursor());
     }
-    run.replace(sequence.build(), None);
-    trace_lines::entries(run.sink, &run.timeline);
-    trace_lines::items(run.sink, &items[..n]);
+    run.replace(sink, sequence.build(), None);
+    trace_lines::entries(sink, &run.timeline);
+    trace_lines::items(sink, &items[..n]);
     Ok(())
 }
 

@@ -4,19 +4,19 @@ use group::group::AnimationGroup;
 use timeline::introspection::{AnimationIntrospection, AnimationKind, PlaybackState};
 use trace_places::run::Run;
 
-pub(crate) fn timeline(run: &mut Run<'_>) {
-    shown(run, run.timeline.introspect());
+pub(crate) fn timeline(run: &Run, sink: &mut Sink) {
+    shown(run, sink, run.timeline.introspect());
 }
 
 // Of the group around the timeline.
-pub(crate) fn group(run: &mut Run<'_>) {
+pub(crate) fn group(run: &Run, sink: &mut Sink) {
     let group = AnimationGroup::from(run.timeline);
-    shown(run, group.introspect());
+    shown(run, sink, group.introspect());
 }
 
-fn shown(run: &mut Run<'_>, shown: AnimationIntrospection) {
-    run.line(None);
-    line(run.sink, shown);
+fn shown(run: &Run, sink: &mut Sink, shown: AnimationIntrospection) {
+    run.line(sink, None);
+    line(sink, shown);
 }
 
 // `  introspect kind progress elapsed duration state`

@@ -34,7 +34,7 @@ fn main(rt: HostRuntime) {
 // Makes the calls of a script, as far as they are not cut.
 fn make_all(sink: &mut Sink, script: &[u8]) -> Result<(), Cut> {
     let mut cursor = Cursor::new(script);
-    let mut run = Run::new(sink);
+    let mut run = Run::new();
     // A script has at most as many calls as bytes. No `while let`: that this ends would be a clause at each method of the cursor.
     for number in 1..=script.len() {
         let Ok(byte) = cursor.byte() else {
@@ -43,29 +43,34 @@ fn make_all(sink: &mut Sink, script: &[u8]) -> Result<(), Cut> {
         run.number = number;
         run.byte = byte;
         let call = cursor.call(byte)?;
-        make(&mut run, &mut cursor, call)?;
+        make(&mut run, sink, &mut cursor, call)?;
     }
     Ok(())
 }
 
 // Makes a call: where it moves or steers what plays, by value and in place; another one by value, and the columns are laid out anew
 // where it left another timeline.
-fn make(run: &mut Run<'_>, cursor: &mut Cursor<'_>, call: Call<'_>) -> Result<(), Cut> {
+fn make(
+    run: &mut Run,
+    sink: &mut Sink,
+    cursor: &mut Cursor<'_>,
+    call: Call<'_>,
+) -> Result<(), Cut> {
     match call {
-        Call::Move(call, room) => moves::moving(run, call, room),
-        Call::Update(u) => moves::updating(run, u),
-        Call::Pause => calls::pause(run),
-        Call::Resume => calls::resume(run),
-        Call::SetTimeScale(scale) => calls::set_time_scale(run, scale),
-        Call::Looping(mode) => calls::looping(run, mode),
-        Call::Add(entry) => calls::add(run, entry),
-        Call::AddBoxed(entry) => calls::add_boxed(run, entry),
-        Call::Delay(pattern, index) => calls::delay(run, pattern, index),
-        Call::Introspect => introspect::timeline(run),
-        Call::IntrospectGroup => introspect::group(run),
-        Call::Reverse(room) => reverse::reversing(run, room),
-        Call::Build(how) => builders::building(run, cursor, how)?,
-        Call::Sequence(n) => builders::sequencing(run, cursor, n)?,
+        Call::Move(call, room) => moves::moving(run, sink, call, room),
+        Call::Update(u) => moves::updating(run, sink, u),
+        Call::Pause => calls::pause(run, sink),
+        Call::Resume => calls::resume(run, sink),
+        Call::SetTimeScale(scale) => calls::set_time_scale(run, sink, scale),
+        Call::Looping(mode) => calls::looping(run, sink, mode),
+        Call::Add(entry) => calls::add(run, sink, entry),
+        Call::AddBoxed(entry) => calls::add_boxed(run, sink, entry),
+        Call::Delay(pattern, index) => calls::delay(run, sink, pattern, index),
+        Call::Introspect => introspect::timeline(run, sink),
+        Call::IntrospectGroup => introspect::group(run, sink),
+        Call::Reverse(room) => reverse::reversing(run, sink, room),
+        Call::Build(how) => builders::building(run, sink, cursor, how)?,
+        Call::Sequence(n) => builders::sequencing(run, sink, cursor, n)?,
     }
     Ok(())
 }

@@ -1,4 +1,5 @@
 // The calls that steer a timeline or add to it, and the delay: each is made, and its lines are printed.
+use case_io::text::Sink;
 use clock::Clock;
 use refusal::Refusal;
 use timeline::timeline::{At, Timeline};
@@ -7,17 +8,30 @@ use trace_read::{Added, Placement};
 use track::track::Playhead;
 use tween::{Loop, StaggerPattern};
 
-pub fn pause(run: &mut Run<'_>) {
-    steered(run, lent_clock::pause, Timeline::pause, Playhead::pause);
-}
-
-pub fn resume(run: &mut Run<'_>) {
-    steered(run, lent_clock::resume, Timeline::resume, Playhead::resume);
-}
-
-pub fn set_time_scale(run: &mut Run<'_>, scale: f32) {
+pub fn pause(run: &mut Run, sink: &mut Sink) {
     steered(
         run,
+        sink,
+        lent_clock::pause,
+        Timeline::pause,
+        Playhead::pause,
+    );
+}
+
+pub fn resume(run: &mut Run, sink: &mut Sink) {
+    steered(
+        run,
+        sink,
+        lent_clock::resume,
+        Timeline::resume,
+        Playhead::resume,
+    );
+}
+
+pub fn set_time_scale(run: &mut Run, sink: &mut Sink, scale: f32) {
+    steered(
+        run,
+        sink,
         |clock| lent_clock::set_time_scale(clock, scale),
         |t| t.set_time_scale(scale),
         |head| head.set_time_scale(scale),
@@ -25,7 +39,7 @@ pub fn set_time_scale(run: &mut Run<'_>, scale: f32) {
 }
 
 // A call that steers what plays: on a timeline by value, or with an odd number on a clock that is lent; and on a playhead.
-fn steered<L, V, P>(run: &mut Run<'_>, lent: L, by_value: V, in_place: P)
+fn steered<L, V, P>(run: &mut Run, sink: &mut Sink, lent: L, by_value: V, in_place: P)
 where
     L: FnOnce(&mut Clock),
     V: FnOnce(Timeline) -> Timeline,
@@ -40,39 +54,40 @@ where
         run.timeline = by_value(run.timeline);
     }
     run.place.head = in_place(run.place.head);
-    run.line(None);
-    run.compare_clock();
+    run.line(sink, None);
+    run.compare_clock(sink);
 }
 
-pub fn looping(run: &mut Run<'_>, mode: Loop) {
+pub fn looping(run: &mut Run, sink: &mut Sink, mode: Loop) {
     run.timeline = run.timeline.looping(mode);
     run.place.head = run.place.head.looping(mode);
-    run.line(None);
-    run.compare_clock();
+    run.line(sink, None);
+    run.compare_clock(sink);
 }
 
 // A label's text is looked for by the call itself.
-pub fn add(run: &mut Run<'_>, entry: Added<'_>) {
+pub fn add(run: &mut Run, sink: &mut Sink, entry: Added<'_>) {
     let t = run.timeline;
     let answer = match entry.at {
         Placement::Label(target) => t.add_at_label(entry.label, target, entry.duration),
         placement => t.add(entry.label, at(&t, placement), entry.duration),
     };
-    added(run, answer);
+    added(run, sink, answer);
 }
 
-pub fn add_boxed(run: &mut Run<'_>, entry: Added<'_>) {
+pub fn add_boxed(run: &mut Run, sink: &mut Sink, entry: Added<'_>) {
     let t = run.timeline;
     let at = at(&t, entry.at);
     added(
         run,
+        sink,
         t.add_boxed_with_duration(entry.label, at, entry.duration),
     );
 }
 
-fn added(run: &mut Run<'_>, answer: Result<Timeline, Refusal>) {
-    run.replace(answer.unwrap_or(run.timeline), answer.err());
-    trace_lines::entries(run.sink, &run.timeline);
+fn added(run: &mut Run, sink: &mut Sink, answer: Result<Timeline, Refusal>) {
+    run.replace(sink, answer.unwrap_or(run.timeline), answer.err());
+    trace_lines::entries(sink, &run.timeline);
 }
 
 // The placement in a timeline.
@@ -96,8 +111,8 @@ fn last_labeled(t: &Timeline, target: &[u8]) -> usize {
 }
 
 // A refused delay shows 0.
-pub fn delay(run: &mut Run<'_>, pattern: StaggerPattern, index: u32) {
+pub fn delay(run: &Run, sink: &mut Sink, pattern: StaggerPattern, index: u32) {
     let answer = pattern.delay(index);
-    run.line(answer.err());
-    trace_lines::delay(run.sink, answer.unwrap_or(0.0));
+    run.line(sink, answer.err());
+    trace_lines::delay(sink, answer.unwrap_or(0.0));
 }

@@ -1,5 +1,6 @@
 // The calls on a playhead and three columns, in place, and whether they leave what the calls by value left. The columns have more
 // places than the timeline has entries.
+use case_io::text::Sink;
 use completions::SpanArrays;
 use player::engine::{Player, Updated, preview};
 use refusal::Refusal;
@@ -16,11 +17,18 @@ const SPARE_START: f32 = -12345.0;
 const SPARE_DURATION: f32 = 1.0e30;
 
 // What plays in the columns.
-#[derive(Drop)]
+#[derive(Clone, Copy)]
 pub struct InPlace {
     pub head: Playhead,
     held: SpanArrays<ROWS>,
     marks: [bool; ROWS],
+}
+
+// `differs`, unless they are the same.
+pub fn differs(sink: &mut Sink, same: bool) {
+    if !same {
+        sink.bytes(b"differs\n");
+    }
 }
 
 // A call that moves what plays, on a timeline by value.

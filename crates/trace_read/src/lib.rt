@@ -12,6 +12,9 @@ pub const ROWS: usize = 300;
 // How many places of the list are lent at most.
 pub const LIST: usize = 1000;
 
+// More items than a byte counts.
+pub const ITEMS: usize = 256;
+
 // Why a call is not made: its byte is unknown, or an operand is missing, or one that is not allowed.
 #[derive(Clone, Copy, Debug, PartialEq, Eq)]
 pub struct Cut;
@@ -66,7 +69,7 @@ pub struct Added<'a> {
 }
 
 // What is left of a script.
-#[derive(Drop)]
+#[derive(Clone, Copy)]
 pub struct Cursor<'a> {
     rest: &'a [u8],
 }
@@ -164,22 +167,22 @@ impl<'a> Cursor<'a> {
     }
 
     // A u16.
-    fn half(&mut self) -> Result<u16, Cut> {
+    pub fn half(&mut self) -> Result<u16, Cut> {
         Ok(u16::from_le_bytes(self.chunk()?))
     }
 
     // A u32.
-    fn word(&mut self) -> Result<u32, Cut> {
+    pub fn word(&mut self) -> Result<u32, Cut> {
         Ok(u32::from_le_bytes(self.chunk()?))
     }
 
     // An f32, by its bits.
-    fn float(&mut self) -> Result<f32, Cut> {
+    pub fn float(&mut self) -> Result<f32, Cut> {
         Ok(float32::from_bits(self.word()?))
     }
 
     // A label: its length as a byte, then its bytes.
-    fn label(&mut self) -> Result<&'a [u8], Cut> {
+    pub fn label(&mut self) -> Result<&'a [u8], Cut> {
         let len = self.byte()?;
         self.bytes(usize::from(len))
     }
@@ -198,7 +201,7 @@ impl<'a> Cursor<'a> {
         if len <= ROWS { Ok(len) } else { Err(Cut) }
     }
 
-    fn room(&mut self) -> Result<Room, Cut> {
+    pub fn room(&mut self) -> Result<Room, Cut> {
         Ok(Room {
             kinds: usize::from(self.half()?).min(ROWS),
             amounts: usize::from(self.half()?).min(ROWS),
@@ -206,7 +209,7 @@ impl<'a> Cursor<'a> {
         })
     }
 
-    fn update(&mut self) -> Result<Update<'a>, Cut> {
+    pub fn update(&mut self) -> Result<Update<'a>, Cut> {
         Ok(Update {
             dt: self.float()?,
             room: self.room()?,
@@ -223,7 +226,7 @@ impl<'a> Cursor<'a> {
         })
     }
 
-    fn placement(&mut self) -> Result<Placement<'a>, Cut> {
+    pub fn placement(&mut self) -> Result<Placement<'a>, Cut> {
         Ok(match self.byte()? {
             0 => Placement::Absolute(self.float()?),
             1 => Placement::Start,
@@ -235,12 +238,12 @@ impl<'a> Cursor<'a> {
     }
 
     // A loop mode and a number, which some modes have.
-    fn looping(&mut self) -> Result<Loop, Cut> {
+    pub fn looping(&mut self) -> Result<Loop, Cut> {
         let parts = (self.byte()?, self.word()?);
         Loop::try_from(parts).or(Err(Cut))
     }
 
-    fn pattern(&mut self) -> Result<StaggerPattern, Cut> {
+    pub fn pattern(&mut self) -> Result<StaggerPattern, Cut> {
         Ok(match self.byte()? {
             0 => StaggerPattern::Grid {
                 cols: self.word()?,
