@@ -1,12 +1,14 @@
 -- The ends of entries in two columns, and what an iterator over both has left.
-use Prim.Native.Nat.{ℕ, zero, suc, min}
+use Prim.Native.Nat.{ℕ, zero, suc, min, ◌<◌, ◌≤◌}
 use mathlib.Core.Path.{◌≡◌, refl, sym, ap, ◌∙◌}
-use mathlib.Core.List.{List, [], ◌∷◌, nil≢cons, head-eq_of_cons-eq, tail-eq_of_cons-eq}
+use mathlib.Core.List.{List, [], ◌∷◌, nil≢cons, head-eq_of_cons-eq, tail-eq_of_cons-eq, map}
 use mathlib.Core.Logic.{inl, inr}
 use native.Mathlib.Omega.{arith}
+use native.Mathlib.Nat.{not-suc-le-zero, le_of_suc-le-suc}
 use denote.Ref.{Bor}
-use lib.ListN.{length, take, length-take}
-use lib.Ieee.{Float, binary32, add}
+use lib.ListN.{length, take, length-take, get_or}
+use lib.Ieee.{Float, binary32, add, nan}
+use lib.Seq.{get_or-take}
 use Rattle.std.specs.declared.iter.Zip.{Zip}
 use Rattle.std.specs.declared.slice.Iter.{Iter}
 use Rattle.std.specs.Prelude.{Option, Some, None}
@@ -17,6 +19,8 @@ use Rattle.std.proofs.iter.Yields.{fronts}
 use Rattle.std.proofs.lemmas.Iterator.{zips}
 use Rattle.std.proofs.lemmas.Slice.Zip.{Zip-more, either_empty_from_Zip}
 use Rattle.steps.proofs.Lists.{take_own}
+use Rattle.steps.specs.Times.{end_at}
+use Rattle.steps.specs.declared.Entry.{Entry}
 use Rattle.completions.specs.Columns.{ends_of, ends_in}
 
 -- ---- how many ends there are
@@ -25,6 +29,31 @@ pub all_long : (ss ds : List Float) → length (ends_of ss ds) ≡ min (length s
 all_long [] ds = omega arith
 all_long (s ∷ ss) [] = omega arith
 all_long (s ∷ ss) (d ∷ ds) = omega (arith, all_long ss ds)
+
+pub all_at : (ss ds : List Float) (i : ℕ) → i < length ss → i < length ds → get_or (ends_of ss ds) i nan ≡ add binary32 (get_or ss i nan) (get_or ds i nan)
+all_at [] ds i h k = absurd (not-suc-le-zero h)
+all_at (s ∷ ss) [] i h k = absurd (not-suc-le-zero k)
+all_at (s ∷ ss) (d ∷ ds) zero h k = refl
+all_at (s ∷ ss) (d ∷ ds) (suc i) h k = all_at ss ds i (le_of_suc-le-suc h) (le_of_suc-le-suc k)
+
+module _ (n : ℕ) (ss ds : List Float) where
+  pub ends-counted : length (ends_in n ss ds) ≡ min n (min (length ss) (length ds))
+  ends-counted = length-take n (ends_of ss ds) ∙ ap (min n) (all_long ss ds)
+
+  -- as many as asked for, where both columns have them
+  pub ends-long : n ≤ length ss → n ≤ length ds → length (ends_in n ss ds) ≡ n
+  ends-long h k = omega (arith, ends-counted)
+
+  pub ends_at : (i : ℕ) → i < n → i < length ss → i < length ds → get_or (ends_in n ss ds) i nan ≡ add binary32 (get_or ss i nan) (get_or ds i nan)
+  ends_at i g h k = get_or-take n (ends_of ss ds) i nan g ∙ all_at ss ds i h k
+
+-- of the first count entries, the n that the columns have
+module _ (count n : ℕ) (ss ds : List Float) (e : n ≡ length (ends_in count ss ds)) where
+  pub held-within : (n ≤ count) × (n ≤ length ss) × (n ≤ length ds)
+  held-within = omega (arith, e, ends-counted count ss ds)
+
+  pub held_same : ends_in n ss ds ≡ ends_in count ss ds
+  held_same = ap (λ (k : ℕ). ends_in k ss ds) e ∙ take_own count (ends_of ss ds)
 
 no_ends : (ss : List Float) → ends_of ss [] ≡ []
 no_ends [] = refl
@@ -55,7 +84,7 @@ gives_ends (y ∷ ys) s e = (
 -- ---- the first entries of both columns
 
 -- the first n ends are those of the first n of either column
-ends_first : (n : ℕ) (ss ds : List Float) → ends_in n ss ds ≡ ends_of (take n ss) (take n ds)
+pub ends_first : (n : ℕ) (ss ds : List Float) → ends_in n ss ds ≡ ends_of (take n ss) (take n ds)
 ends_first zero ss ds = refl
 ends_first (suc n) [] ds = refl
 ends_first (suc n) (s ∷ ss) [] = refl
@@ -64,3 +93,13 @@ ends_first (suc n) (s ∷ ss) (d ∷ ds) = ap (λ (t : List Float). add binary32
 -- the first k of both columns, where k is how many of the first n there are
 pub first_same : (n k : ℕ) (ss ds : List Float) → k ≡ min n (length (ends_of ss ds)) → ends_of (take k ss) (take k ds) ≡ ends_in n ss ds
 first_same n k ss ds e = sym (ends_first k ss ds) ∙ rw (e, ← length-take n (ends_of ss ds)) (take_own n (ends_of ss ds))
+
+-- ---- the columns of a list of entries
+
+pub ends_of_entries : (es : List Entry) → ends_of (map (λ (e : Entry). e.start) es) (map (λ (e : Entry). e.duration) es) ≡ map end_at es
+ends_of_entries [] = refl
+ends_of_entries (e ∷ es) = ap (λ (t : List Float). end_at e ∷ t) (ends_of_entries es)
+
+-- the ends of entries that are the first n of the columns
+pub ends_held : (n : ℕ) (ss ds : List Float) (es : List Entry) → map (λ (e : Entry). e.start) es ≡ take n ss → map (λ (e : Entry). e.duration) es ≡ take n ds → ends_in n ss ds ≡ map end_at es
+ends_held n ss ds es p q = ends_first n ss ds ∙ rw (← p, ← q) (ends_of_entries es)

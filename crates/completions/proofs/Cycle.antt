@@ -2,14 +2,14 @@
 use mathlib.Core.Path.{◌≡◌, refl, ap, sym, subst, ◌∙◌}
 use mathlib.Core.Bool.{Bool, true, false, cond}
 use mathlib.Core.List.{List, [], ◌∷◌, ◌++◌}
-use Prim.Native.Nat.{ℕ, suc, ◌+◌, ◌≤◌}
+use Prim.Native.Nat.{ℕ, suc, ◌+◌, ◌≤◌, ◌<◌}
 use native.Mathlib.Numerals.{add-one}
 use native.Mathlib.Nat.{add-zero, zero-add}
 use native.Mathlib.Omega.{arith}
 use denote.Ref.{Bor}
-use lib.ListN.{length, set}
-use lib.Seq.{sets, sets-eq}
-use lib.Ieee.{Float, binary32, add}
+use lib.ListN.{length, set, drop, get_or, drop_of_length-le}
+use lib.Seq.{sets, sets-eq, drop-cons}
+use lib.Ieee.{Float, binary32, add, nan}
 use Rattle.std.specs.declared.iter.Enumerate.{Enumerate}
 use Rattle.std.specs.declared.iter.Zip.{Zip}
 use Rattle.std.specs.declared.slice.Iter.{Iter}
@@ -76,6 +76,23 @@ module _ (w : Walk) (start : Float) (it it' : Enumerate (Zip (Iter Float) (Iter 
   still_end e h =
       let k = subst (λ o. enumerate_steps (zips fronts fronts) it o it') e h in
       rw (left_none (enumerate_source it) (enumerate_source it') None refl k.0)
+
+-- what the cycle lists from the entry i on
+unfoldable pub rest : Walk → Float → List Float → ℕ → List ℕ
+rest w start ends i = in_cycle w start i (drop i ends)
+
+module _ (w : Walk) (start : Float) (ends : List Float) where
+  pub rest-start : rest w start ends 0 ≡ in_cycle w start 0 ends
+  unfolding rest
+  rest-start = refl
+
+  pub rest_end : (i : ℕ) → length ends ≤ i → rest w start ends i ≡ []
+  unfolding rest in_cycle
+  rest_end i h = rw (drop_of_length-le ends h)
+
+  pub rest-turn : (i : ℕ) (b : Bool) → i < length ends → b ≡ completes w start (get_or ends i nan) → rest w start ends i ≡ keep b i (rest w start ends (i + 1))
+  unfolding rest in_cycle
+  rest-turn i b h e = rw (e, add-one, drop-cons ends i nan)
 
 -- a run of stores is two
 pub sets-append : (l : List ℕ) (i : ℕ) (xs ys : List ℕ) → sets l i (xs ++ ys) ≡ sets (sets l i xs) (i + length xs) ys

@@ -6,6 +6,7 @@ pub mod Empty
 pub mod Numbers
 pub mod Ends
 pub mod Columns
+pub mod ColumnTurns
 pub mod Answers
 pub mod Drift
 pub mod Starts

@@ -33,11 +33,11 @@ enough (suc j) (suc k) n h g = step (ltb n 10) j k n (enough j k (n / 10) (omega
 
 -- ---- the number of digits: one below 10, else one more than n / 10 has
 
-places_small : (n : ℕ) → n < 10 → decimal_places n ≡ 1
+pub places_small : (n : ℕ) → n < 10 → decimal_places n ≡ 1
 unfolding decimal_places
 places_small n h = from_small n n h
 
-places_large : (n : ℕ) → 10 ≤ n → decimal_places n ≡ suc (decimal_places (n / 10))
+pub places_large : (n : ℕ) → 10 ≤ n → decimal_places n ≡ suc (decimal_places (n / 10))
 unfolding decimal_places
 places_large zero h = absurd (not-suc-le-zero h)
 places_large (suc m) h = from_large m (suc m) h ∙ ap suc (enough m (suc m / 10) (suc m / 10) (omega arith) (omega arith))

@@ -1,6 +1,6 @@
 -- A loop that writes a text of digits into a slice, from the last to the first: what is left to do, at each turn.
 use Prim.Native.Nat.{ℕ, zero, suc, ◌+◌, ◌-◌, ◌/◌, ◌%◌, ◌≤◌, ◌<◌}
-use mathlib.Core.Path.{◌≡◌, sym, ◌∙◌}
+use mathlib.Core.Path.{◌≡◌, sym, ◌∙◌, refl}
 use mathlib.Core.List.{List}
 use native.Mathlib.Nat.{not-suc-le-zero}
 use native.Mathlib.Numerals.{sub-one}
@@ -18,6 +18,9 @@ pub record Left (b n w at : ℕ) (old out : List ℕ) (rest i : ℕ) : Type 0 wh
   pub left : put_at (digits b i rest) at out ≡ put_at (digits b w n) at old
 
 module _ (b n w at : ℕ) (old : List ℕ) where
+  pub all_left : at + w ≤ length old → Left b n w at old old n w
+  all_left h = record { within = omega arith; room = h; same = refl; left = refl }
+
   one_less : (out : List ℕ) (rest j v : ℕ) → Left b n w at old out rest (suc j) → v ≡ code_of (rest % b)
       → Left b n w at old (set out (at + j) v) (rest / b) j
   unfolding digits

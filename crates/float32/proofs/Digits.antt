@@ -2,7 +2,7 @@
 use mathlib.Core.Path.{◌≡◌, refl, sym, ap, subst, ◌∙◌}
 use mathlib.Core.Bool.{true, false, true≢false, false≢true}
 use Prim.Native.Nat.{ℕ, zero, suc, ◌+◌, ◌-◌, ◌*◌, ◌/◌, ◌%◌, ◌^◌, ◌<◌, ◌≤◌, compare, Ordering}
-use native.Mathlib.Nat.{le_antisymm, le_trans, le_of_eq, le_of_lt, lt_of_lt_of_le, lt_of_le_of_lt, lt_of_not-le, not-le_of_lt, zero-lt-suc, suc-add, add-sub_cancel_left, mul-one, one-mul, mul_comm, mul_assoc, mul-le-mul_right, div-one, mod-one, div-eq_of_lt, div-lt_iff_lt-mul}
+use native.Mathlib.Nat.{le_antisymm, le_trans, le_of_eq, le_of_lt, lt_of_lt_of_le, lt_of_le_of_lt, lt_of_not-le, not-le_of_lt, zero-lt-suc, suc-add, add-sub_cancel_left, mul-one, one-mul, mul_comm, mul_assoc, mul-le-mul_right, div-one, mod-one, div-eq_of_lt, div-lt_iff_lt-mul, mul-le-mul_left}
 use native.Mathlib.Omega.{arith}
 use native.Mathlib.Numerals.{add-one}
 use borrow.Author.Tests.{le-leb, lt-leb, eq-eqb, ne_eqb}
@@ -56,6 +56,10 @@ cross_scale n p z q y e = mul_assoc n (2 ^ p) (2 ^ y) ∙ ap (λ (x : ℕ). n * 
 -- 1 << k, at every width w
 pub one_shifted : (w k : ℕ) → k < w → 1 * 2 ^ k % 2 ^ w ≡ 2 ^ k
 one_shifted w k h = shl_exact {a = 1} 1 k w (lit≤ tt) (omega arith) ∙ one-mul (2 ^ k)
+
+-- a quotient by 2 or more is below half of the range
+pub quotient_half : (n u k : ℕ) → 1 < u → n < k * 2 → n / u < k
+quotient_half n u k U h = (div-lt_iff_lt-mul (le_of_lt U)).1 (lt_of_lt_of_le h (mul-le-mul_left k U))
 
 -- ---- n shifted by p - z places: n * 2 ^ p / 2 ^ z
 -- only the difference of the two exponents matters

@@ -1,5 +1,5 @@
 -- The tests for a NaN and for a finite value, by comparison and from the bits. Assumes nothing.
-use mathlib.Core.Path.{◌≡◌, refl, sym, ap, ◌∙◌}
+use mathlib.Core.Path.{◌≡◌, refl, sym, ap, ◌∙◌, subst}
 use mathlib.Core.Bool.{not-not, Bool, true, false, not, cond}
 use Prim.Native.Nat.{ℕ, zero, suc, ◌+◌, ◌/◌, ◌%◌}
 use lib.Dec.{T, leb, eqb}
@@ -50,3 +50,7 @@ unfolding is_nan
 finite_no_nan nan h = sym h
 finite_no_nan (inf s) h = refl
 finite_no_nan (fin s m e) h = refl
+
+-- the test `x != x` failed
+pub no_nan : (x : Float) → ne x x ≡ false → T (not (is_nan x))
+no_nan x e = subst (λ (b : Bool). T (not b)) (sym (sym (ne_self x) ∙ e)) tt

@@ -33,7 +33,7 @@ unfolding of_bits
 pattern-value n h = fields-value (leb (top binary32) n) (field_of n) (n % hid binary32) h
 
 -- a finite value's field is not all ones
-field_not_ones : (x : Float) → T (fits binary32 x) → finite_f x ≡ true → field_of (to_bits binary32 x) ≡ 255 → ⊥
+pub field_not_ones : (x : Float) → T (fits binary32 x) → finite_f x ≡ true → field_of (to_bits binary32 x) ≡ 255 → ⊥
 field_not_ones x p h k =
     let e : true ≡ not (eqb (field_of (to_bits binary32 x)) 255) = sym h ∙ finite_field binary32 x p in
     let s : eqb (field_of (to_bits binary32 x)) 255 ≡ true = eq-eqb (field_of (to_bits binary32 x)) 255 k in

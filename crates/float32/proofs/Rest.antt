@@ -1,13 +1,14 @@
 -- The exact remainder from the digits and scales of two values, in units of 2 ^ -149. Assumes nothing.
 use mathlib.Core.Path.{◌≡◌, refl, sym, ap, ap₂, subst, ◌∙◌}
-use mathlib.Core.Logic.{inl, inr}
+use mathlib.Core.Logic.{inl, inr, ◌⊎◌}
 use mathlib.Core.Bool.{Bool, true, false}
 use Prim.Native.Nat.{ℕ, zero, suc, ◌+◌, ◌-◌, ◌*◌, ◌%◌, ◌^◌, ◌<◌, ◌≤◌}
 use native.Mathlib.Nat.{mul-pos, mul_comm, mul_assoc, mul_right_comm, mul-mul-mul_comm, one-mul, add-zero, zero-mul, mod-zero, mul-div_cancel, mul-mod_left, eq-zero-or-pos, zero-lt-suc, mod-eq_of_lt, le_trans, lt_of_lt_of_le, mul-le-mul_right}
 use native.Mathlib.Omega.{arith}
+use borrow.Author.Tests.{lt-ltb, le-ltb, ltb-true, ltb-false}
 use lib.Arith.{mod-mul}
-use lib.Dec.{eqb-suc-zero}
-use lib.Pow.{pow-add, pow_pos, pow_mono, shl_exact}
+use lib.Dec.{eqb-suc-zero, ltb}
+use lib.Pow.{pow-add, pow_pos, pow_mono, shl_exact, pow-lt}
 use lib.Dec.{lit≤}
 use lib.IntN.{ℤ}
 use lib.Ieee.{Float, nan, inf, fin, Format, binary32, up, down, low, unlike, round, mul, rem, of_int}
@@ -16,6 +17,7 @@ use lib.Ieee.Fits.{up_pos, down_pos}
 use lib.Ieee.Back.{round_whole}
 use lib.Ieee.Scale.{round_same}
 use Rattle.float32.specs.Helpers.{from_u32}
+use Rattle.float32.specs.Parts.{unit_pattern, field_of, scale_of}
 use Rattle.std.proofs.lemmas.Nat.{mul-mod_first}
 
 -- ---- whole numbers
@@ -128,3 +130,21 @@ remainder-value x y u s t a b r k B R h j v e =
     mul-values binary32 (from_u32 r) u false s r 1 k c (lit≤ tt) C (round_whole binary32 false r R) v
     ∙ ap₂ (λ (s : Bool) (n : ℕ). round binary32 s n c) (same-sign s) e
     ∙ sym (rem-values binary32 x y s t a b c C B h j)
+
+-- ---- the scale of a pattern whose field is not all ones
+pub scale-below : (n : ℕ) → (field_of n ≡ 255 → ⊥) → scale_of n ≤ 253
+scale-below n h = omega arith
+
+-- ---- 2 ^ p of the smallest values
+split : (p k : ℕ) → (p < k) ⊎ (k ≤ p)
+split p k = go (ltb p k) refl
+  where
+    go : (b : Bool) → ltb p k ≡ b → (p < k) ⊎ (k ≤ p)
+    go true e = inl (ltb-true p k e)
+    go false e = inr (ltb-false p k e)
+
+pub unit-below : (p : ℕ) → p ≤ 253 → unit_pattern p ≤ 1937768448
+unit-below p h = elim (split p 23) [
+  | inl l ↦ let small : 2 ^ p < 2 ^ 23 = pow-lt {i = p} {j = 23} l in rw (lt-ltb p 23 l) (omega arith)
+  | inr g ↦ rw (le-ltb p 23 g) (omega arith)
+]

@@ -4,8 +4,8 @@ use mathlib.Core.Path.{◌≡◌, refl, sym, ap, ◌∙◌}
 use mathlib.Core.Bool.{Bool, true, false, cond}
 use mathlib.Core.List.{List, ◌++◌}
 use native.Mathlib.Omega.{arith}
-use borrow.Author.Tests.{ltb-false}
-use lib.Dec.{ltb, lit≤}
+use borrow.Author.Tests.{ltb-false, eqb-false}
+use lib.Dec.{ltb, lit≤, eqb}
 use lib.ListN.{length, take, length-append, length-take}
 use lib.Ieee.{Float}
 use Rattle.std.specs.Prelude.{Option, Ok, Err}
@@ -91,3 +91,12 @@ pub item_added : (t : Timeline) (i : ℕ) (at : At) (d : Float) → t.track.coun
     → step t (Add (item_label i) at d) ≡ silent accepted (grown t (item_label i) (resolve_start t at) d)
 unfolding step
 item_added t i at d e h = grows t (item_label i) (resolve_start t at) d (omega arith) (label_fits_lem i h)
+
+-- where the first of two refusals is none, neither is the second
+pub second_none : (a b : ℕ) → first_refusal a b ≡ accepted → b ≡ accepted
+unfolding first_refusal
+second_none a b e = go (eqb a accepted) refl e
+  where
+    go : (t : Bool) → eqb a accepted ≡ t → cond t b a ≡ accepted → b ≡ accepted
+    go true p q = q
+    go false p q = absurd (eqb-false a accepted p q)

@@ -8,7 +8,7 @@ use lib.Dec.{eqb, leb, ltb}
 use lib.ListN.{length, take, set}
 use lib.Seq.{take-suc-set}
 use lib.Ieee.{Float}
-use borrow.Author.Tests.{ltb-false, leb-false}
+use borrow.Author.Tests.{ltb-false, leb-false, lt-leb, le-ltb}
 use Rattle.refusal.specs.Refusal.{accepted, timeline_full, label_too_long}
 use Rattle.steps.specs.Times.{max_entries}
 use Rattle.label.specs.Label.{max_label, text, label_of}
@@ -56,6 +56,10 @@ module _ (t : Timeline) (name : List ℕ) (start duration : Float) where
       go true long p q = refused timeline_full refl
       go false true p q = refused label_too_long refl
       go false false p q = taken (leb-false max_entries t.track.count p) (ltb-false max_label (length name) q)
+
+  pub added_is : t.track.count < max_entries → length name ≤ max_label → added_at t name start duration ≡ silent accepted (grown t name start duration)
+  unfolding added_at
+  added_is h k = rw (lt-leb max_entries t.track.count h, le-ltb max_label (length name) k)
 
   pub added-room : eqb (added_at t name start duration).refusal accepted ≡ true → (t.track.count < max_entries) × (length name ≤ max_label)
   added-room =

@@ -1,12 +1,14 @@
--- What is found is the first label with the text, as `position` gives it.
+-- What is found is the first label with the text, as `position` gives it; and the laws of a loop that looks for it from the front.
 use Prim.Native.Nat.{ℕ, zero, suc, ◌+◌, ◌<◌, ◌≤◌, zero-le, suc-le-suc}
 use mathlib.Core.Path.{◌≡◌, refl, ap, ◌∙◌}
 use mathlib.Core.Bool.{Bool, true, false, cond}
 use mathlib.Core.List.{List, [], ◌∷◌}
 use native.Mathlib.Nat.{not-suc-le-zero, le_of_suc-le-suc}
 use native.Mathlib.Omega.{arith}
-use lib.ListN.{length, get_or}
+use native.Mathlib.Numerals.{add-one}
+use lib.ListN.{length, get_or, take, drop, drop_of_length-le, length-take}
 use lib.Dec.{ltb}
+use lib.Seq.{drop-cons, get_or-take}
 use Rattle.std.specs.List.{position_from, position_or_len}
 use Rattle.std.proofs.lemmas.Iterator.Adapters.{position_from-zero}
 use Rattle.label.specs.Label.{text, same_text, first_from, first_with, first_like, no_label}
@@ -111,3 +113,23 @@ unfolding first_like
 like_none k ls h = rw (le-ltb k (length ls) h)
 
 pub ruleset likes = (like_at, like_none)
+
+in_part : (n k : ℕ) (ls : List Label) → k < length (take n ls) → get_or (take n ls) k no_label ≡ get_or ls k no_label
+in_part n k ls h = get_or-take n ls k no_label (omega (arith, length-take n ls))
+
+-- label k of the first n; b is what a test of it gives
+module _ (n k : ℕ) (ls : List Label) (target : List ℕ) where
+  -- a turn finds the text
+  pub first-hit : (b : Bool) → k < length (take n ls) → b ≡ same_text (text (get_or ls k no_label)) target → b ≡ true → first_from k target (drop k (take n ls)) ≡ Some k
+  unfolding first_from
+  first-hit b h e p = rw (drop-cons (take n ls) k no_label h, in_part n k ls h, ← e, p)
+
+  -- a turn finds another text
+  pub first-miss : (b : Bool) → k < length (take n ls) → b ≡ same_text (text (get_or ls k no_label)) target → b ≡ false → first_from k target (drop k (take n ls)) ≡ first_from (k + 1) target (drop (k + 1) (take n ls))
+  unfolding first_from
+  first-miss b h e p = rw (drop-cons (take n ls) k no_label h, in_part n k ls h, ← e, p, add-one)
+
+  -- no label is left
+  pub first-end : length (take n ls) ≤ k → first_from k target (drop k (take n ls)) ≡ None
+  unfolding first_from
+  first-end h = rw (drop_of_length-le (take n ls) h)

@@ -1,15 +1,18 @@
 -- Bytes put over a slice, one part after the other: what is still to be written, at each turn of a loop.
-use Prim.Native.Nat.{ℕ, ◌+◌, ◌*◌, ◌/◌, ◌≤◌}
+use Prim.Native.Nat.{ℕ, ◌+◌, ◌*◌, ◌/◌, ◌≤◌, suc, ◌%◌, ◌<◌}
 use mathlib.Core.Path.{◌≡◌, refl, sym, ap, ◌∙◌}
-use mathlib.Core.List.{List, [], ◌++◌}
+use mathlib.Core.List.{List, [], ◌++◌, ◌∷◌}
 use native.Mathlib.Omega.{arith}
-use lib.ListN.{length, length-append, length-take, length-drop}
+use native.Mathlib.Numerals.{add-one}
+use lib.ListN.{length, length-append, length-take, length-drop, take, set}
+use lib.Seq.{paste, sets-eq}
 use mir.Syntax.{w16, w32}
 use Rattle.std.specs.Int.{to_le_bytes}
 use Rattle.words.specs.Words.{bytes_of}
 use Rattle.words.proofs.Bytes.{length-bytes}
 use Rattle.digits.specs.Digits.{put_at}
 use Rattle.digits.proofs.PutAt.{put_at_nil, put_at_append}
+use Rattle.steps.proofs.Lists.{take_own}
 
 pub length-put_at : (xs : List ℕ) (at : ℕ) (old : List ℕ) → at + length xs ≤ length old → length (put_at xs at old) ≡ length old
 length-put_at xs at old h = simp (length-append, length-take, length-drop) (omega arith)
@@ -58,7 +61,25 @@ put_at_parts h p r t n m old a b c new lh lp lr e room wa wb wc wn =
     (put_at_then p (r ++ t) 12 (12 + 4 * n) a b new wb
     (put_at_then r t (12 + 4 * n) m b c new wc wn (omega arith) (omega arith)) (omega arith) (omega arith)) (omega arith) (omega arith)
 
+-- the first bytes of a list, copied, are a text
+pub paste_put_at : (n : ℕ) (xs : List ℕ) (i at : ℕ) (old : List ℕ) → i ≡ length (take n xs) → paste old at xs i ≡ put_at (take n xs) at old
+paste_put_at n xs i at old e = rw (e, take_own n xs)
+
 -- ---- words
+
+-- two stores write a word of two bytes
+pub put_at_two : (n at : ℕ) (old : List ℕ) → n < 65536 → at + 2 ≤ length old → set (set old at (n % 256)) (at + 1) (n / 256) ≡ put_at (bytes_of 2 n) at old
+unfolding bytes_of
+put_at_two n at old small h =
+    let e : n / 256 % 256 ≡ n / 256 = omega arith in
+    rw (add-one, e) (sets-eq (n % 256 ∷ n / 256 ∷ []) old at h)
+
+pub put_at_four : (a b c d at : ℕ) (old : List ℕ) → at + 4 ≤ length old
+    → set (set (set (set old at a) (at + 1) b) (at + 2) c) (at + 3) d ≡ put_at (a ∷ b ∷ c ∷ d ∷ []) at old
+put_at_four a b c d at old h =
+    let two : at + 2 ≡ suc (suc at) = omega arith in
+    let three : at + 3 ≡ suc (suc (suc at)) = omega arith in
+    rw (add-one at, two, three) (sets-eq (a ∷ b ∷ c ∷ d ∷ []) old at h)
 
 -- the bytes of a number, as std has them
 pub le-two : (n : ℕ) → to_le_bytes w16 n ≡ bytes_of 2 n

@@ -1,7 +1,7 @@
 -- The definitions that go over entries in turn, at a turn of a loop over i of n.
 use Prim.Native.Nat.{ℕ, zero, suc, ◌+◌, ◌-◌, ◌*◌, ◌≤◌, ◌<◌}
 use mathlib.Core.Path.{◌≡◌, refl, sym}
-use mathlib.Core.Bool.{true}
+use mathlib.Core.Bool.{true, false, cond, not}
 use mathlib.Core.List.{List, [], ◌∷◌, ◌++◌}
 use native.Mathlib.Nat.{not-suc-le-zero, le_of_suc-le-suc}
 use native.Mathlib.Numerals.{add-one}
@@ -10,20 +10,20 @@ use borrow.Author.Tests.{ltb-true}
 use Rattle.std.specs.Prelude.{sum_by}
 use Rattle.std.specs.List.{list_all}
 use Rattle.std.proofs.lemmas.List.Recursion.{is_sum_by}
-use lib.Dec.{leb}
-use lib.ListN.{length, drop, get_or, length-append}
-use lib.Seq.{drop-cons, drop-drop}
+use lib.Dec.{leb, eqb}
+use lib.ListN.{length, drop, get_or, length-append, take, length-take, drop_of_length-le}
+use lib.Seq.{drop-cons, drop-drop, get_or-take}
 use Rattle.refusal.specs.declared.Refusal.{Refusal}
-use Rattle.refusal.specs.Refusal.{accepted, number}
+use Rattle.refusal.specs.Refusal.{accepted, number, sheet_length, sheet_pair}
 use Rattle.refusal.proofs.Numbers.{refused}
 use Rattle.steps.specs.Times.{max_entries}
-use Rattle.label.specs.Label.{max_label, text}
+use Rattle.label.specs.Label.{max_label, text, no_label}
 use Rattle.sheet_rules.specs.declared.record.Placement.{Placement}
 use Rattle.sheet_rules.specs.declared.record.Placement.TheVariants.{Absolute, Start, End, Label as Labeled, Offset}
 use Rattle.sheet_format.specs.declared.description.Item.{Item}
-use Rattle.words.specs.Pairs.{pair_size}
+use Rattle.words.specs.Pairs.{pair_size, length_in, pairs_in_turn}
 use Rattle.sheet_rules.specs.Rules.{record_size}
-use Rattle.sheet_format.specs.Check.{record_number, records_number}
+use Rattle.sheet_format.specs.Check.{record_number, records_number, pair_good, pairs_number}
 use Rattle.sheet_format.specs.Descriptions.{item_of, items_from}
 use Rattle.sheet_format.specs.Write.{text_length, pair_of, pairs_of, record_of, records_of, texts_of, labels_good, targets_good}
 use Rattle.sheet_rules.specs.Placements.{target_of, target_good}
@@ -37,6 +37,22 @@ module _ (n i : ℕ) where
 
   done : n ≤ i → n - i ≡ 0
   done h = omega arith
+
+  -- ---- the pairs
+
+  module _ (len offset at : ℕ) (s : List ℕ) where
+    pub pairs-bad : i < n → pair_good offset (drop at s) ≡ false → pairs_number len offset (n - i) (drop at s) ≡ sheet_pair
+    unfolding pairs_in_turn
+    pairs-bad h g = rw (turn h, g)
+
+    pub pairs-more : i < n → pair_good offset (drop at s) ≡ true
+        → pairs_number len offset (n - i) (drop at s) ≡ pairs_number len (offset + length_in (drop at s)) (n - (i + 1)) (drop (at + pair_size) s)
+    unfolding pairs_in_turn
+    pairs-more h g = rw (turn h, g, drop-drop pair_size at s)
+
+    pub pairs_end : n ≤ i → pairs_number len offset (n - i) (drop at s) ≡ cond (not (eqb offset len)) sheet_length accepted
+    unfolding pairs_in_turn
+    pairs_end h = rw (done h)
 
   -- ---- the records
 
@@ -85,6 +101,50 @@ module _ (i : ℕ) (xs : List Item) (d : Item) (h : i < length xs) where
 
   pub texts-count : (len : ℕ) → len ≡ text_length (get_or xs i d) → length (texts_of (drop i xs)) ≡ len + length (texts_of (drop (i + 1) xs))
   texts-count len e = rw (texts-live, e) (length-append (text (get_or xs i d).label) (texts_of (drop (i + 1) xs)))
+
+-- ---- checks of the first n of an array, at a turn of a loop over i of n
+
+-- what is read past the last entry
+abbrev pub unread : Item
+unread = record { duration = 0; at = Absolute 0; label = no_label }
+
+-- after the last turn none is left
+pub live_end : (n i : ℕ) (items : List Item) → n ≤ i → drop i (take n items) ≡ []
+live_end n i items h =
+    let l : length (take n items) ≤ i = omega (arith, length-take n items) in
+    drop_of_length-le (take n items) l
+
+module _ (n i : ℕ) (items : List Item) (d : Item) where
+  -- at a turn one is in front
+  pub live-cons : i < n → n ≤ length items → drop i (take n items) ≡ get_or items i d ∷ drop (i + 1) (take n items)
+  live-cons h k =
+      let l : i < length (take n items) = omega (arith, length-take n items) in
+      rw (drop-cons (take n items) i d l, get_or-take n items i d h, add-one)
+
+  pub labels-bad : i < n → n ≤ length items → leb (get_or items i d).label.len max_label ≡ false → labels_good (drop i (take n items)) ≡ false
+  unfolding labels_good
+  labels-bad h k g = rw (live-cons h k, g)
+
+  pub labels-more : i < n → n ≤ length items → leb (get_or items i d).label.len max_label ≡ true → labels_good (drop i (take n items)) ≡ labels_good (drop (i + 1) (take n items))
+  unfolding labels_good
+  labels-more h k g = rw (live-cons h k, g)
+
+  pub targets-bad : (m : ℕ) → i < n → n ≤ length items → target_good m (get_or items i d).at ≡ false → targets_good m (drop i (take n items)) ≡ false
+  unfolding targets_good
+  targets-bad m h k g = rw (live-cons h k, g)
+
+  pub targets-more : (m : ℕ) → i < n → n ≤ length items → target_good m (get_or items i d).at ≡ true → targets_good m (drop i (take n items)) ≡ targets_good m (drop (i + 1) (take n items))
+  unfolding targets_good
+  targets-more m h k g = rw (live-cons h k, g)
+
+-- nothing is left to check
+pub labels_end : labels_good [] ≡ true
+unfolding labels_good
+labels_end = refl
+
+pub targets_end : (m : ℕ) → targets_good m [] ≡ true
+unfolding targets_good
+targets_end m = refl
 
 -- ---- checks and a sum over entries
 
@@ -162,3 +222,17 @@ pub target_small : (xs : List Item) (i : ℕ) (d : Item) → length xs ≤ max_e
 target_small xs i d f g h =
     let below = target_below (length xs) (get_or xs i d).at (omega arith) (target_at (length xs) xs i d g h) in
     omega arith
+
+-- of the first n of an array the target of each is below the count of entries, or 0
+pub target_live : (m n i : ℕ) (items : List Item) (d : Item) → targets_good m (take n items) ≡ true → i < n → n ≤ length items → target_of (get_or items i d).at ≤ m
+target_live m n i items d g h k =
+    let l : i < length (take n items) = omega (arith, length-take n items) in
+    let t = target_at m (take n items) i d g l in
+    at_most m (get_or items i d).at (rw (get_or-take n items i d h) at t)
+  where
+    at_most : (m : ℕ) (at : Placement) → target_good m at ≡ true → target_of at ≤ m
+    at_most m (Absolute s) g = omega arith
+    at_most m Start g = omega arith
+    at_most m End g = omega arith
+    at_most m (Labeled k) g = omega (arith, ltb-true k m g)
+    at_most m (Offset s) g = omega arith

@@ -11,7 +11,7 @@ xor_low : (a b : ℕ) → bit_xor a b % 2 ≡ (a + b) % 2
 xor_low a b = omega (arith, xor_add_and a b)
 
 -- words of any number of bits
-xor_same : (bits : ℕ) {a b : ℕ} → a < 2 ^ bits → b < 2 ^ bits → bit_xor a b ≡ xor bits a b
+pub xor_same : (bits : ℕ) {a b : ℕ} → a < 2 ^ bits → b < 2 ^ bits → bit_xor a b ≡ xor bits a b
 unfolding xor
 xor_same zero {a} {b} ha hb =
     let p : a ≡ 0 = omega arith in
@@ -22,7 +22,7 @@ xor_same (suc k) {a} {b} ha hb =
     ∙ ap₂ (λ (x y : ℕ). x * 2 + y) (xor_shr a b 1 ∙ xor_same k (omega arith) (omega arith)) (xor_low a b)
 
 -- `x ^ x >> k`
-fold_same : (bits k : ℕ) {x : ℕ} → x < 2 ^ bits → bit_xor x (x / 2 ^ k) ≡ xor bits x (x / 2 ^ k)
+pub fold_same : (bits k : ℕ) {x : ℕ} → x < 2 ^ bits → bit_xor x (x / 2 ^ k) ≡ xor bits x (x / 2 ^ k)
 fold_same bits k {x} h = xor_same bits h (lt_of_le_of_lt (div-le_self x (2 ^ k)) h)
 
 -- a product keeps the low 32 bits

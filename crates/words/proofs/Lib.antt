@@ -1,3 +1,5 @@
--- Laws of words, and of pairs in turn.
+-- Laws of words, parts and pairs in turn.
 pub mod Bytes
+pub mod At
+pub mod Parts
 pub mod InTurn
