@@ -9,18 +9,20 @@ use borrow.Author.Tests.{le-leb, lt-leb, leb-true, leb-false}
 use lib.Dec.{leb}
 use lib.ListN.{length, take, drop, length-take, length-drop}
 use Rattle.std.specs.Prelude.{Option, None, Some}
-use Rattle.track.specs.declared.track.Playhead.{Playhead}
 use Rattle.track.specs.Tracks.{live}
-use Rattle.track.specs.Columns.{with_clock_at, entries_in}
+use Rattle.track.specs.Columns.{entries_in}
 use Rattle.track.proofs.Columns.{counted as entries-counted}
 use Rattle.player.specs.declared.engine.Player.{Player}
 use Rattle.player.specs.Answered.{playing_in, SameColumns}
+use Rattle.player.proofs.Loops.{left_of, left_then, same_columns}
+use Rattle.digits.specs.Digits.{put_at}
 use Rattle.call_log.specs.declared.Log.{Log}
 use Rattle.call_log.specs.Lines.{line_size, shown, shown_all, Wrote}
 use Rattle.call_log.specs.Logs.{call_size, outcome_at, call_line}
-use Rattle.call_log.specs.Machine.{counted, next_lines, next_bytes, next_log, log_in, Logs, least_bytes, is_next, no_calls, Calls, call_then, batch_from, batch_of, RunsTo}
+use Rattle.call_log.specs.Machine.{counted, next_lines, next_bytes, next_log, log_in, line_bytes, Logs, least_bytes, is_next, no_calls, Calls, call_then, batch_from, batch_of, RunsTo}
 use Rattle.call_log.proofs.Fronts.{outcome-front, chunk_is}
 use Rattle.call_log.proofs.Making.{next-goes}
+use Rattle.call_log.proofs.InPlace.{Runs}
 use Rattle.call_log.proofs.Writing.{wrote_length, wrote_then, wrote_none, wrote_all}
 
 -- ---- one call more
@@ -176,13 +178,7 @@ same_count {p} {q} k =
 -- the same columns, twice
 pub then_columns : {p q r : Player} → SameColumns p q → SameColumns q r → SameColumns p r
 then_columns {p} {q} {r} a b =
-    record {
-      head = b.head ∙ ap (λ (h : Playhead). with_clock_at h r.head.clock) a.head;
-      spans = b.spans ∙ a.spans;
-      marks = b.marks ∙ a.marks;
-      len = b.len ∙ a.len;
-      spare = subst (λ (n : ℕ). drop n r.marks.now ≡ drop n q.marks.now) (same_count a) b.spare ∙ a.spare;
-    }
+    same_columns (left_then (left_of a) (left_of b)) (b.len ∙ a.len) (subst (λ (n : ℕ). drop n r.marks.now ≡ drop n q.marks.now) (same_count a) b.spare ∙ a.spare)
 
 module _ (ended : Bool) (log₀ : Log) (bytes old : List ℕ) where
   -- nothing is written
@@ -195,28 +191,38 @@ module _ (ended : Bool) (log₀ : Log) (bytes old : List ℕ) where
     same-room h = wrote_length s.wrote h
 
     -- one line more: that of a chunk x, before more
-    pub one_more : (x more new : List ℕ) (number n : ℕ) (p q : Player) → log.track ≡ playing_in p → number ≡ counted log.number
-        → rest ≡ x ++ more → length x ≡ min call_size (length rest) → least_bytes ended ≤ length rest → line_size ≤ length old - len
-        → Logs number p x n q len out new → len + n ≤ length old
-        → SoFar ended log₀ bytes old new (log_in number q) more (used + length x) (len + n)
-    one_more x more new number n p q ep en e size there room logs few =
-        let c = chunk_is rest x more e size in
-        let same : outcome_at (playing_in p) x ≡ outcome_at log.track rest =
-        rw ep (ap (outcome_at (playing_in p)) (sym c.0) ∙ outcome-front (playing_in p) rest call_size (omega arith)) in
-        let goes = next-goes log rest (omega (arith, some_bytes ended)) in
-        let line = shown (call_line (counted log.number) (outcome_at log.track rest)) in
-        let ln : n ≡ length line = rw (same, en) at logs.len in
-        let tr : playing_in q ≡ (outcome_at log.track rest).track = rw same at logs.track in
-        let left : length old - (len + n) ≡ length old - len - length line = omega arith in
-        record {
-          text = s.text ++ line;
-          wrote = wrote_then s.wrote (record { bytes = rw (same, en) at logs.text; ends = ap (len +◌) ln }) few;
-          whole = rw (tr, en, left) (s.whole ∙ rw (more-calls ended (Some log) rest (length old - len) (is-next ended rest (length old - len) there room), goes.0, goes.1, c.0, c.1, add_assoc, append_assoc));
-        }
+    module _ (x more new : List ℕ) (number n : ℕ) (p q : Player) (ep : log.track ≡ playing_in p) (en : number ≡ counted log.number) (e : rest ≡ x ++ more) (size : length x ≡ min call_size (length rest))
+        (there : least_bytes ended ≤ length rest) (room : line_size ≤ length old - len) where
+      -- whatever the columns
+      pub more-by : playing_in q ≡ (outcome_at (playing_in p) x).track → n ≡ length (line_bytes number p x) → new ≡ put_at (line_bytes number p x) len out → len + n ≤ length old
+          → SoFar ended log₀ bytes old new (log_in number q) more (used + length x) (len + n)
+      more-by et el ew few =
+          let c = chunk_is rest x more e size in
+          let same : outcome_at (playing_in p) x ≡ outcome_at log.track rest =
+          rw ep (ap (outcome_at (playing_in p)) (sym c.0) ∙ outcome-front (playing_in p) rest call_size (omega arith)) in
+          let goes = next-goes log rest (omega (arith, some_bytes ended)) in
+          let line = shown (call_line (counted log.number) (outcome_at log.track rest)) in
+          let ln : n ≡ length line = rw (same, en) at el in
+          let tr : playing_in q ≡ (outcome_at log.track rest).track = rw same at et in
+          let left : length old - (len + n) ≡ length old - len - length line = omega arith in
+          record {
+            text = s.text ++ line;
+            wrote = wrote_then s.wrote (record { bytes = rw (same, en) at ew; ends = ap (len +◌) ln }) few;
+            whole = rw (tr, en, left) (s.whole ∙ rw (more-calls ended (Some log) rest (length old - len) (is-next ended rest (length old - len) there room), goes.0, goes.1, c.0, c.1, add_assoc, append_assoc));
+          }
 
-    -- no line more
+      pub one_more : Logs number p x n q len out new → len + n ≤ length old → SoFar ended log₀ bytes old new (log_in number q) more (used + length x) (len + n)
+      one_more logs = more-by logs.track logs.len logs.text
+
+    -- no line more; whatever the columns
+    pub runs-by : (number : ℕ) (q : Player) → log ≡ log_in number q → is_next ended rest (length old - len) ≡ false
+        → Runs (batch_of ended (Some log₀) bytes (length old)) (record { number = number; used = used; len = len }) q old out
+    runs-by number q el e =
+        let all : batch_of ended (Some log₀) bytes (length old) ≡ call_then used s.text (no_calls (Some log)) = rw (no-calls ended (Some log) rest (length old - len) e) at s.whole in
+        rw (all, append-nil, add-zero, el) (refl, wrote_all s.wrote, refl, s.wrote.bytes)
+
     pub no_more : (number : ℕ) (p q : Player) → log ≡ log_in number q → is_next ended rest (length old - len) ≡ false → SameColumns p q
         → RunsTo (batch_of ended (Some log₀) bytes (length old)) (record { number = number; used = used; len = len }) p q old out
     no_more number p q el e columns =
-        let all : batch_of ended (Some log₀) bytes (length old) ≡ call_then used s.text (no_calls (Some log)) = rw (no-calls ended (Some log) rest (length old - len) e) at s.whole in
-        rw (all, append-nil, add-zero, el) (record { used = refl; len = wrote_all s.wrote; log = refl; text = s.wrote.bytes; columns = columns })
+        let w = runs-by number q el e in
+        record { used = w.0; len = w.1; log = w.2; text = w.3; columns = columns }

@@ -158,16 +158,28 @@ pub seated : (k : Track) → length k.entries ≡ max_entries → {h : Playhead}
     → {ss ds : List Float} → ss ≡ s → ds ≡ d → track_of h ss ds m ≡ trimmed k
 seated k l w es ed = rw (es, ed) (all_laid k l refl w.track)
 
+-- what a run answers, and leaves of log and lines, whatever the columns
+abbrev pub Runs : Calls → Ran → Player → List ℕ → List ℕ → Type 0
+Runs c r q old new = (r.used ≡ c.used) × (r.len ≡ length c.text) × (Some (log_in r.number q) ≡ c.log) × (new ≡ lined c.text old)
+
 -- the calls of a batch run by a player of columns of all entries, in which the whole track was laid out: what is gathered is what the batch leaves of it
-pub runs_whole : (ended : Bool) (log : Log) (bytes old new : List ℕ) {g : Track} (p q : Player) (r : Ran) → playing_in p ≡ trimmed log.track → max_entries ≡ length p.spans.starts.now
-    → RunsTo (batch_of ended (Some (log_in log.number p)) bytes (length old)) r p q old new → g ≡ laid_over log.track (playing_in q)
-    → (record { used = r.used; len = r.len; log = Some (record { number = r.number; track = record { count = log.track.count; entries = g.entries; clock = g.clock; looping = g.looping } }) } ≡ batched_by (batch_of ended (Some log) bytes (length old)))
-    × (new ≡ lined (batch_of ended (Some log) bytes (length old)).text old)
-runs_whole ended log bytes old new {g} p q r laid size runs eg =
-    let k = log.track in
-    let b = batch_of ended (Some (record { number = log.number; track = trimmed k })) bytes (length old) in
-    let own : RunsTo b r p q old new = rw laid at runs in
-    let long : max_entries ≡ length q.spans.starts.now = rw own.columns.spans size in
-    let track : record { count = k.count; entries = g.entries; clock = g.clock; looping = g.looping } ≡ put_back k (playing_in q) = gathered k q.head q.spans.starts.now q.spans.durations.now q.marks.now eg long in
-    rw (batch_back ended log bytes (length old), track, own.used, own.len)
-    (ap (λ (l : Option Log). record { used = b.used; len = length b.text; log = back_in k l }) own.log, own.text)
+module _ (ended : Bool) (log : Log) (bytes old new : List ℕ) (p q : Player) (r : Ran) (laid : playing_in p ≡ trimmed log.track) (size : max_entries ≡ length p.spans.starts.now) where
+  -- what is answered with the track g gathered, and the lines, are the batch's
+  abbrev Whole : Track → Type 0
+  Whole g =
+      (record { used = r.used; len = r.len; log = Some (record { number = r.number; track = record { count = log.track.count; entries = g.entries; clock = g.clock; looping = g.looping } }) } ≡ batched_by (batch_of ended (Some log) bytes (length old)))
+      × (new ≡ lined (batch_of ended (Some log) bytes (length old)).text old)
+
+  -- of the columns it matters only that the spans are the same
+  pub whole-by : {g : Track} → q.spans ≡ p.spans → Runs (batch_of ended (Some (log_in log.number p)) bytes (length old)) r q old new → g ≡ laid_over log.track (playing_in q) → Whole g
+  whole-by {g} spans runs eg =
+      let k = log.track in
+      let b = batch_of ended (Some (record { number = log.number; track = trimmed k })) bytes (length old) in
+      let own : Runs b r q old new = rw laid at runs in
+      let long : max_entries ≡ length q.spans.starts.now = rw spans size in
+      let track : record { count = k.count; entries = g.entries; clock = g.clock; looping = g.looping } ≡ put_back k (playing_in q) = gathered k q.head q.spans.starts.now q.spans.durations.now q.marks.now eg long in
+      rw (batch_back ended log bytes (length old), track, own.0, own.1)
+      (ap (λ (l : Option Log). record { used = b.used; len = length b.text; log = back_in k l }) own.2, own.3)
+
+  pub runs_whole : {g : Track} → RunsTo (batch_of ended (Some (log_in log.number p)) bytes (length old)) r p q old new → g ≡ laid_over log.track (playing_in q) → Whole g
+  runs_whole runs eg = whole-by runs.columns.spans (runs.used, runs.len, runs.log, runs.text) eg

@@ -35,8 +35,8 @@ use Rattle.track.specs.declared.track.Track.{Track}
 use Rattle.track.specs.Tracks.{live, track_base, rows_of, moved}
 use Rattle.track.specs.Columns.{track_of, with_clock_at}
 use Rattle.track.specs.Updates.{ticks, newly_done, Advance}
-use Rattle.track.specs.Calls.{TrackOut}
-use Rattle.track.specs.Answers.{Answer, reached_from, UpdatesBy}
+use Rattle.track.specs.Calls.{TrackOut, fitted, advanced_to}
+use Rattle.track.specs.Answers.{SameSlices, Answer, reached_from, UpdatesBy}
 use Rattle.track.proofs.Columns.{own, completed}
 use Rattle.track.proofs.Outcomes.{outnumbered, finished, listed-within, listed-over}
 use Rattle.track.specs.declared.track.Playhead.{Playhead}
@@ -45,7 +45,7 @@ use Rattle.player.specs.declared.engine.Updated.{Updated}
 use Rattle.player.specs.Answered.{playing_in, SameColumns, at_clock, answer_of, answer_in, ticked_to, synced_to, UpdatesTo}
 use Rattle.player.specs.Loops.{first_in, ticks_in, done_in, SentIn, SentTo}
 use Rattle.player.proofs.Checks.{same_slices, same_player}
-use Rattle.player.proofs.Loops.{few, Left, applied, ticked-own}
+use Rattle.player.proofs.Loops.{few, Left, left_own, left_of, applied, ticked-own}
 
 -- in Once the run is the base
 pub once_reach : (mode : Loop) (base next : Float) → is_once mode ≡ true → within base next ≡ reach_of mode base next
@@ -88,17 +88,25 @@ module _ (p : Player) where
     refused_over ex f el =
         (same_player p, same_slices r, told (ap answer_in ex) refl el (outnumbered t l₀ r.kinds.now r.amounts.now r.places.now v f))
 
+    -- carried out, by a player of whose spare marks nothing is known
+    pub left_carried : {q : Player} {s : Rows} {to : Reach} {n : ℕ} {u : Updated} {c : Clock} → Left p q c → answer_of u ≡ reached_from p.head.clock to.ended n → to ≡ v.reach
+        → ltb (length l₀) (length v.listed) ≡ false → n ≡ length v.listed → l ≡ over v.listed l₀ → (playing_in q ≡ moved t (advanced_clock p.head.clock to.elapsed to.ended) v.steps) × SentIn (rows_of v.steps) r s
+        → Left p q q.head.clock × SameSlices r s × UpdatesBy (fitted (length l₀) t (advanced_to t v)) (answer_of u) (playing_in q) l₀ l r.kinds.now s.kinds.now r.amounts.now s.amounts.now r.places.now s.places.now
+    left_carried {q} {s} {to} {n} {u} left ex et f en el sent =
+        let answer = ex ∙ ap (λ (d : Clock). reached_from d to.ended n) (sym clock-own) in
+        let track = sent.0 ∙ ap (λ (d : Clock). moved t (advanced_clock d to.elapsed to.ended) v.steps) (sym clock-own) in (
+          left_own left,
+          sent.1.0,
+          told answer track refl (finished t l₀ r.kinds.now r.amounts.now r.places.now l s.kinds.now s.amounts.now s.places.now v (ap (λ (z : Reach). z.elapsed) et) (ap (λ (z : Reach). z.ended) et) f en el refl sent.1.1),
+        )
+
     -- carried out
     pub carried : {q : Player} {s : Rows} {to : Reach} {n : ℕ} {u : Updated} → answer_of u ≡ reached_from p.head.clock to.ended n → to ≡ v.reach
         → ltb (length l₀) (length v.listed) ≡ false → n ≡ length v.listed → l ≡ over v.listed l₀ → SameColumns p q × (playing_in q ≡ moved t (advanced_clock p.head.clock to.elapsed to.ended) v.steps) × SentIn (rows_of v.steps) r s
         → UpdatesTo p v (Ok u) q l₀ l r s
-    carried {q} {s} {to} {n} {u} ex et f en el sent =
-        let answer = ex ∙ ap (λ (d : Clock). reached_from d to.ended n) (sym clock-own) in
-        let track = sent.1 ∙ ap (λ (d : Clock). moved t (advanced_clock d to.elapsed to.ended) v.steps) (sym clock-own) in (
-          sent.0,
-          sent.2.0,
-          told answer track refl (finished t l₀ r.kinds.now r.amounts.now r.places.now l s.kinds.now s.amounts.now s.places.now v (ap (λ (z : Reach). z.elapsed) et) (ap (λ (z : Reach). z.ended) et) f en el refl sent.2.1),
-        )
+    carried ex et f en el sent =
+        let w = left_carried (left_of sent.0) ex et f en el (sent.1, sent.2) in
+        (sent.0, w.1, w.2)
 
   module _ {n : ℕ} (all : n ≡ length (live t)) (base next : Float) where
     -- ---- a tick

@@ -171,10 +171,25 @@ pub record Left (p q : Player) (c : Clock) : Type 0 where
   pub spans : q.spans ≡ p.spans
   pub marks : q.marks.ghost_name ≡ p.marks.ghost_name
 
-pub same_columns : {p q : Player} {c : Clock} → Left p q c → length q.marks.now ≡ length p.marks.now → drop (length (live (playing_in p))) q.marks.now ≡ drop (length (live (playing_in p))) p.marks.now → SameColumns p q
-same_columns {p} {q} {c} l len spare =
+-- what is left is left with its own clock
+pub left_own : {p q : Player} {c : Clock} → Left p q c → Left p q q.head.clock
+left_own {p} {q} {c} l =
     let own : q.head.clock ≡ c = ap (λ (h : Playhead). h.clock) l.head in
-    record { head = l.head ∙ ap (with_clock_at p.head) (sym own); spans = l.spans; marks = l.marks; len = len; spare = spare }
+    record { head = l.head ∙ ap (with_clock_at p.head) (sym own); spans = l.spans; marks = l.marks }
+
+-- a player in the same columns is left so
+pub left_of : {p q : Player} → SameColumns p q → Left p q q.head.clock
+left_of k = record { head = k.head; spans = k.spans; marks = k.marks }
+
+-- what is left of what was left is left of the first
+pub left_then : {p q r : Player} {b c : Clock} → Left p q b → Left q r c → Left p r c
+left_then {c = c} a b = record { head = b.head ∙ ap (λ (h : Playhead). with_clock_at h c) a.head; spans = b.spans ∙ a.spans; marks = b.marks ∙ a.marks }
+
+-- where the marks are as many, and those behind the entries that count are the same
+pub same_columns : {p q : Player} {c : Clock} → Left p q c → length q.marks.now ≡ length p.marks.now → drop (length (live (playing_in p))) q.marks.now ≡ drop (length (live (playing_in p))) p.marks.now → SameColumns p q
+same_columns l len spare =
+    let own = left_own l in
+    record { head = own.head; spans = own.spans; marks = own.marks; len = len; spare = spare }
 
 module _ (p : Player) {n : ℕ} (all : n ≡ length (live (playing_in p))) where
   abbrev t : Track

@@ -17,12 +17,12 @@ use Rattle.track.specs.declared.track.Track.{Track}
 use Rattle.track.specs.Tracks.{live, track_base}
 use Rattle.track.specs.Columns.{entries_in, track_of}
 use Rattle.track.specs.Updates.{replies_bad_in}
-use Rattle.track.specs.Calls.{short_in, TrackOut, fitted, updated}
-use Rattle.track.specs.Answers.{refused_where, stayed_in}
+use Rattle.track.specs.Calls.{short_in, TrackOut, Update, fitted, updated, advanced_to, track_step}
+use Rattle.track.specs.Answers.{Answer, refused_where, stayed_in, UpdatesBy}
 use Rattle.track.proofs.Outcomes.{room-left, replies-left, rows_short, replies-bad, goes_on, stays, plays, ticks-on, syncs-on, stayed-on}
 use Rattle.player.specs.declared.engine.Player.{Player}
 use Rattle.player.specs.declared.engine.Updated.{Updated}
-use Rattle.player.specs.Answered.{playing_in, answer_of, answer_in, ticked_to, synced_to, Updates, UpdatesTo, UpdatesInPlace}
+use Rattle.player.specs.Answered.{playing_in, room_in, answer_of, answer_in, ticked_to, synced_to, Updates, UpdatesTo, UpdatesInPlace}
 use Rattle.player.specs.Loops.{Writes, first_in, SentTo}
 use Rattle.player.proofs.Checks.{refused, passed, same_slices, same_player}
 use Rattle.player.proofs.Moving.{all_own}
@@ -40,6 +40,14 @@ module _ (p : Player) (r : Rows) (dt : Float) (rs l₀ : List ℕ) {n : ℕ} (en
 
   all : n ≡ length (live t)
   all = all_own p en
+
+  -- what is answered, and left of track, list and rows, whatever the columns
+  abbrev Leaves : TrackOut → Answer → Track → List ℕ → List ℕ → List Float → List Float → Type 0
+  Leaves o x q l kinds amounts places = UpdatesBy o x q l₀ l r.kinds.now kinds r.amounts.now amounts r.places.now places
+
+  -- what the update comes to
+  abbrev outcome : TrackOut
+  outcome = track_step t (Update dt rs (length l₀) (room_in r))
 
   -- refused by 3
   pub update-short : (e : Refusal) → y ≡ Err e → {x : Result Updated Refusal} → x ≡ Err e → UpdatesInPlace p dt rs x p l₀ l₀ r r
@@ -63,10 +71,12 @@ module _ (p : Player) (r : Rows) (dt : Float) (rs l₀ : List ℕ) {n : ℕ} (en
       update-room =
           (all, room-left n r.kinds.now r.amounts.now r.places.now wide, replies-left n rs (passed BadReplies _ ez fz))
 
-      module _ {o : TrackOut} (eo : updated t dt rs ≡ o) (x : Result Updated Refusal) {q : Player} {l : List ℕ} {s : Rows} where
-        update-on : Updates (fitted (length l₀) t o) p x q l₀ l r s → UpdatesInPlace p dt rs x q l₀ l r s
-        update-on u =
-            (u.0, u.1, goes_on t dt rs l₀ r.kinds.now r.amounts.now r.places.now all wide (passed BadReplies _ ez fz) eo u.2)
+      module _ {o : TrackOut} (eo : updated t dt rs ≡ o) where
+        leaves-on : {x : Answer} {q : Track} {l kinds : List ℕ} {amounts places : List Float} → Leaves (fitted (length l₀) t o) x q l kinds amounts places → Leaves outcome x q l kinds amounts places
+        leaves-on = goes_on t dt rs l₀ r.kinds.now r.amounts.now r.places.now all wide (passed BadReplies _ ez fz) eo
+
+        update-on : (x : Result Updated Refusal) {q : Player} {l : List ℕ} {s : Rows} → Updates (fitted (length l₀) t o) p x q l₀ l r s → UpdatesInPlace p dt rs x q l₀ l r s
+        update-on x u = (u.0, u.1, leaves-on u.2)
 
       module _ {base : Float} (eb : base ≡ track_base t) where
         -- it does not go on
@@ -78,11 +88,20 @@ module _ (p : Player) (r : Rows) (dt : Float) (rs l₀ : List ℕ) {n : ℕ} (en
             update-on (stays t dt rs eb off) (Ok u) (w.0, w.2.0, told eu refl refl (stayed-on t l₀ r.kinds.now r.amounts.now r.places.now l₀ s.kinds.now s.amounts.now s.places.now refl w.1 w.2.1))
 
         -- it ticks, or synchronises
-        module _ (on : advances p.head.clock base ≡ true) {next : Float} (en' : next ≡ next_elapsed p.head.clock dt) (x : Result Updated Refusal) {q : Player} {l : List ℕ} {s : Rows} where
-          pub update-ticks : is_once p.head.looping ≡ true → UpdatesTo p (ticked_to t base next rs) x q l₀ l r s → UpdatesInPlace p dt rs x q l₀ l r s
+        module _ (on : advances p.head.clock base ≡ true) {next : Float} (en' : next ≡ next_elapsed p.head.clock dt) where
+          pub leaves-ticks : is_once p.head.looping ≡ true → {x : Answer} {q : Track} {l kinds : List ℕ} {amounts places : List Float}
+              → Leaves (fitted (length l₀) t (advanced_to t (ticked_to t base next rs))) x q l kinds amounts places → Leaves outcome x q l kinds amounts places
           unfolding track_of
-          update-ticks once = update-on (plays t dt rs eb on (ticks-on t dt rs eb on en' (once_reach p.head.looping base next once) once)) x
+          leaves-ticks once = leaves-on (plays t dt rs eb on (ticks-on t dt rs eb on en' (once_reach p.head.looping base next once) once))
 
-          pub update-syncs : is_once p.head.looping ≡ false → UpdatesTo p (synced_to t base next) x q l₀ l r s → UpdatesInPlace p dt rs x q l₀ l r s
+          pub leaves-syncs : is_once p.head.looping ≡ false → {x : Answer} {q : Track} {l kinds : List ℕ} {amounts places : List Float}
+              → Leaves (fitted (length l₀) t (advanced_to t (synced_to t base next))) x q l kinds amounts places → Leaves outcome x q l kinds amounts places
           unfolding track_of
-          update-syncs loops = update-on (plays t dt rs eb on (syncs-on t dt rs eb on en' refl loops refl)) x
+          leaves-syncs loops = leaves-on (plays t dt rs eb on (syncs-on t dt rs eb on en' refl loops refl))
+
+          module _ (x : Result Updated Refusal) {q : Player} {l : List ℕ} {s : Rows} where
+            pub update-ticks : is_once p.head.looping ≡ true → UpdatesTo p (ticked_to t base next rs) x q l₀ l r s → UpdatesInPlace p dt rs x q l₀ l r s
+            update-ticks once u = (u.0, u.1, leaves-ticks once u.2)
+
+            pub update-syncs : is_once p.head.looping ≡ false → UpdatesTo p (synced_to t base next) x q l₀ l r s → UpdatesInPlace p dt rs x q l₀ l r s
+            update-syncs loops u = (u.0, u.1, leaves-syncs loops u.2)

@@ -27,13 +27,13 @@ use Rattle.track.specs.declared.track.Playhead.{Playhead}
 use Rattle.track.specs.Tracks.{live, track_base, rows_of}
 use Rattle.track.specs.Updates.{Advance, replies_bad, ticks, advanced, ended_at, playing}
 use Rattle.track.specs.Calls.{Room, TrackOut, short, refused_if, fitted, updated, updated_with, sent, sought_to, rested, advanced_to, track_silent, track_step, SetTimeScale, Play, Pause, Resume, Reset, Seek, SeekAbs}
-use Rattle.track.specs.Answers.{SameSlices, Answer, MovesBy}
+use Rattle.track.specs.Answers.{SameSlices, Answer, MovesBy, UpdatesBy}
 use Rattle.track.proofs.Ticks.{length-ticks}
 use Rattle.player.specs.declared.engine.Player.{Player}
 use Rattle.player.specs.declared.engine.Updated.{Updated}
 use Rattle.player.specs.Answered.{playing_in, SameColumns, answer_in, Updates}
 use Rattle.player.proofs.Checks.{same_slices}
-use Rattle.player.proofs.Loops.{Left, same_columns}
+use Rattle.player.proofs.Loops.{Left, left_own, same_columns}
 use Rattle.script.specs.Scripts.{outcome_in, MadeBy}
 
 -- what holds on either side of a test
@@ -103,6 +103,18 @@ update-accepted ey = rw ey (refl, refl)
 abbrev pub playing_at : Player → Playhead → Track
 playing_at p h = playing_in (record { head = h; spans = p.spans; marks = p.marks })
 
+-- what was answered and left of track, list and rows, whatever the columns
+module _ {o : TrackOut} {x : Result ℕ Refusal} {t : Track} {k₀ k : List ℕ} {a₀ a p₀ p : List Float} where
+  -- by a call that moved what plays, and lists nothing
+  pub moved-by : (l : List ℕ) (y : Result Unit Refusal) → o.listed ≡ [] → Likewise x y → MovesBy o (number_in y) t k₀ k a₀ a p₀ p → MadeBy o x t l l k₀ k a₀ a p₀ p
+  moved-by l y quiet e m =
+      record { refusal = e.0 ∙ m.refusal; listed = e.1 ∙ sym (ap length quiet); track = m.track; list = rw quiet; rows = m.rows }
+
+  -- by an update
+  pub updated-by : {l₀ l : List ℕ} (y : Result Updated Refusal) → Counts x y → UpdatesBy o (answer_in y) t l₀ l k₀ k a₀ a p₀ p → MadeBy o x t l₀ l k₀ k a₀ a p₀ p
+  updated-by y e u =
+      record { refusal = e.0 ∙ ap (λ (z : Answer). z.refusal) u.answer; listed = e.1 ∙ ap (λ (z : Answer). z.listed) u.answer; track = u.track; list = u.list; rows = u.rows }
+
 module _ (p : Player) (r : Rows) where
   abbrev Made : TrackOut → Result ℕ Refusal → Player → List ℕ → List ℕ → Rows → Type 0
   Made o x q l₀ l s = SameColumns p q × SameSlices r s × MadeBy o x (playing_in q) l₀ l r.kinds.now s.kinds.now r.amounts.now s.amounts.now r.places.now s.places.now
@@ -110,18 +122,23 @@ module _ (p : Player) (r : Rows) where
   -- a call that moved what plays, and lists nothing
   pub made-moved : (l : List ℕ) {o : TrackOut} {x : Result ℕ Refusal} {q : Player} {s : Rows} (y : Result Unit Refusal) → o.listed ≡ [] → Likewise x y
       → SameColumns p q × SameSlices r s × MovesBy o (number_in y) (playing_in q) r.kinds.now s.kinds.now r.amounts.now s.amounts.now r.places.now s.places.now → Made o x q l l s
-  made-moved l y quiet e m =
-      (m.0, m.1, record { refusal = e.0 ∙ m.2.refusal; listed = e.1 ∙ sym (ap length quiet); track = m.2.track; list = rw quiet; rows = m.2.rows })
+  made-moved l y quiet e m = (m.0, m.1, moved-by l y quiet e m.2)
 
   -- an update
   pub made-updated : {l₀ l : List ℕ} {o : TrackOut} {x : Result ℕ Refusal} {q : Player} {s : Rows} (y : Result Updated Refusal) → Counts x y → Updates o p y q l₀ l r s → Made o x q l₀ l s
-  made-updated y e u =
-      (u.0, u.1, record { refusal = e.0 ∙ ap (λ (z : Answer). z.refusal) u.2.answer; listed = e.1 ∙ ap (λ (z : Answer). z.listed) u.2.answer; track = u.2.track; list = u.2.list; rows = u.2.rows })
+  made-updated y e u = (u.0, u.1, updated-by y e u.2)
 
   -- a call that set the clock, or did nothing
+  pub left-silent : (l : List ℕ) {k : Track} {x : Result ℕ Refusal} {q : Player} {c : Clock} → Left p q c → held_or 0 x ≡ 0 → playing_in q ≡ k
+      → Left p q q.head.clock × SameSlices r r × MadeBy (track_silent (number_in x) k) x (playing_in q) l l r.kinds.now r.kinds.now r.amounts.now r.amounts.now r.places.now r.places.now
+  left-silent l left e track =
+      (left_own left, same_slices r, record { refusal = refl; listed = e; track = track; list = refl; rows = record { kinds = refl; amounts = refl; places = refl } })
+
+  -- and set no mark
   pub made-silent : (l : List ℕ) {k : Track} {x : Result ℕ Refusal} {q : Player} {c : Clock} → Left p q c → q.marks.now ≡ p.marks.now → held_or 0 x ≡ 0 → playing_in q ≡ k → Made (track_silent (number_in x) k) x q l l r
   made-silent l left own e track =
-      (same_columns left (ap length own) (ap (drop (length (live (playing_in p)))) own), same_slices r, record { refusal = refl; listed = e; track = track; list = refl; rows = record { kinds = refl; amounts = refl; places = refl } })
+      let w = left-silent l left e track in
+      (same_columns left (ap length own) (ap (drop (length (live (playing_in p)))) own), w.1, w.2)
 
 -- ---- which call a byte makes
 

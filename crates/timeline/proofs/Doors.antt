@@ -26,7 +26,8 @@ use Rattle.track.proofs.Trimmed.{whole}
 use Rattle.track.proofs.Refused.{refused-kept}
 use Rattle.player.specs.declared.engine.Player.{Player}
 use Rattle.player.specs.declared.engine.Updated.{Updated}
-use Rattle.player.specs.Answered.{playing_in, SameColumns, answer_of}
+use Rattle.player.specs.Answered.{playing_in, answer_of}
+use Rattle.player.proofs.Loops.{Left}
 use Rattle.timeline.specs.declared.timeline.Timeline.{Timeline}
 use Rattle.timeline.specs.Calls.{On, with_track, step}
 use Rattle.timeline.specs.Answers.{MoveAnswer, UpdateAnswer, ShowAnswer}
@@ -41,7 +42,7 @@ puts_back : (k : Track) (call : TrackCall) {q : Track} → q ≡ (track_step (tr
 puts_back k call e = ap (put_back k) e ∙ ap (λ (o : TrackOut). o.track) (sym (whole k call))
 
 -- what a player's call leaves in its columns
-left_in : (p q : Player) {h : Playhead} {s d : List Float} → p.head ≡ h → p.spans.starts.now ≡ s → p.spans.durations.now ≡ d → SameColumns p q → playing_in q ≡ track_of (with_clock_at h q.head.clock) s d q.marks.now
+left_in : (p q : Player) {h : Playhead} {s d : List Float} → p.head ≡ h → p.spans.starts.now ≡ s → p.spans.durations.now ≡ d → Left p q q.head.clock → playing_in q ≡ track_of (with_clock_at h q.head.clock) s d q.marks.now
 left_in p q {h} eh es ed k =
     ap (λ (x : Playhead). track_of x q.spans.starts.now q.spans.durations.now q.marks.now) (k.head ∙ ap (λ (x : Playhead). with_clock_at x q.head.clock) eh)
     ∙ ap (λ (x : Spans). track_of (with_clock_at h q.head.clock) x.starts.now x.durations.now q.marks.now) k.spans
@@ -109,7 +110,7 @@ module _ (t : Timeline) (call : TrackCall) {held : Track} (all : held ≡ trimme
 
 -- the player p makes the call in columns that hold the track, and leaves q
 module _ (t : Timeline) (l : length t.track.entries ≡ max_entries) (call : TrackCall) {h : Playhead} {s₀ s d₀ d : List Float} {m₀ m : List Bool}
-    (w : LaysOut t.track (take max_entries (live t.track)) h s₀ s d₀ d m₀ m) (p q : Player) (of : (p.head ≡ h) × (p.spans.starts.now ≡ s) × (p.spans.durations.now ≡ d) × (p.marks.now ≡ m)) (kept : SameColumns p q) where
+    (w : LaysOut t.track (take max_entries (live t.track)) h s₀ s d₀ d m₀ m) (p q : Player) (of : (p.head ≡ h) × (p.spans.starts.now ≡ s) × (p.spans.durations.now ≡ d) × (p.marks.now ≡ m)) (kept : Left p q q.head.clock) where
   held_by : playing_in p ≡ trimmed t.track
   held_by = plays-all t l w p of
 

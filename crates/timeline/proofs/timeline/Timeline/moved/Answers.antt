@@ -4,6 +4,7 @@ use Rattle.std.proofs.Common.{rules, Err}
 use lib.ListN.{length}
 use Rattle.steps.specs.Times.{max_entries}
 use Rattle.track.proofs.Laid.{laid-all}
+use Rattle.player.proofs.Loops.{left_of}
 use Rattle.timeline.proofs.Doors.{seated, door-moves, door-refuses}
 use Rattle.timeline.proofs.timeline.Timeline.moved.Goals as goal
 
@@ -31,4 +32,4 @@ returns g c = λ call makes.
     let long : length t.track.entries ≡ max_entries = search rules in
     let many : length c.args.marks.now ≡ max_entries = search rules in
     let x = makes _ _ _ _ _ c.in_ok-make.ensures in
-    (x.1, door-moves t long (call _) (laid-all refl refl many c.lay_out-head.ensures) _ _ (refl, c.spans.ensures.0, c.spans.ensures.1, refl) x.0 refl x.2)
+    (x.1, door-moves t long (call _) (laid-all refl refl many c.lay_out-head.ensures) _ _ (refl, c.spans.ensures.0, c.spans.ensures.1, refl) (left_of x.0) refl x.2)

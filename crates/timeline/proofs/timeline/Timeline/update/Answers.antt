@@ -5,6 +5,7 @@ use lib.ListN.{length}
 use Rattle.steps.specs.Times.{max_entries}
 use Rattle.track.specs.Calls.{Update}
 use Rattle.track.proofs.Laid.{laid-all}
+use Rattle.player.proofs.Loops.{left_of}
 use Rattle.timeline.proofs.Doors.{seated, door-updates, door-stays}
 use Rattle.timeline.proofs.timeline.Timeline.update.Goals as goal
 
@@ -25,4 +26,4 @@ returns c =
     let long : length t.track.entries ≡ max_entries = search rules in
     let passes : c.update.result ≡ Ok c.in_ok-made.made = search rules in
     let x = c.update.ensures in
-    (x.1, door-updates t long (Update _ _ _ _) (laid-all refl refl refl c.lay_out-head.ensures) _ _ (refl, c.spans.ensures.0, c.spans.ensures.1, refl) x.0 c.left.ensures (rw passes at x.2))
+    (x.1, door-updates t long (Update _ _ _ _) (laid-all refl refl refl c.lay_out-head.ensures) _ _ (refl, c.spans.ensures.0, c.spans.ensures.1, refl) (left_of x.0) c.left.ensures (rw passes at x.2))
